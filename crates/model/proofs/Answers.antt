@@ -1,0 +1,128 @@
+-- What an answer says of the checks behind it. Assumes nothing.
+use mathlib.Core.Path.{_≡_, refl, sym, _∙_}
+use mathlib.Core.Bool.{Bool, true, false, _||_, not, cond, true≢false}
+use borrow.Author.Tests.{ne-eqb}
+use Rattle.model.specs.State.{isReady}
+use Rattle.model.specs.Rights.{denied}
+use Rattle.model.specs.Refusals.{numberOf, accepts, isDenied, check, orElse, readyAnswer}
+use Rattle.model.specs.Checks.{malformed, outOfRange, crossesWindow, operationAnswer}
+use Rattle.model.specs.Errors.{isRecorded}
+use Rattle.model.specs.declared.Answer.{Answer}
+use Rattle.model.specs.declared.Answer.the-variants.{Accepted, Invalid, Busy, Malformed, OutOfRange, CrossesWindow, Denied}
+use Rattle.model.specs.declared.Phase.{Phase}
+use Rattle.model.specs.declared.Phase.the-variants as phase
+use Rattle.model.specs.declared.Operation.{Operation}
+use Rattle.model.specs.declared.Controller.{Controller}
+use Rattle.model.proofs.Bool.{by-test}
+
+-- A refusal does not accept.
+pub accepts-not : (a : Answer) → (numberOf a ≡ 0 → ⊥) → accepts a ≡ false
+accepts-not a h = ne-eqb (numberOf a) 0 h
+
+-- Two checks accept only if each does.
+pub both-accept : (a b : Answer) → accepts (orElse a b) ≡ true → (accepts a ≡ true) × (accepts b ≡ true)
+both-accept a b h =
+    by-test (accepts a) (λ e. (e, rw e at h)) (λ e. absurd (true≢false (sym (rw e at h) ∙ e)))
+
+-- A check that accepts does not apply.
+pub check-passed : (t : Bool) (a : Answer) → accepts a ≡ false → accepts (check t a) ≡ true → t ≡ false
+check-passed true a n h = absurd (true≢false (sym h ∙ n))
+check-passed false a n h = refl
+
+-- Checks 1, 2 and 3 pass: the controller is ready.
+pub ready-passed : (v : Bool) (p : Phase) → accepts (readyAnswer v p) ≡ true → isReady p ≡ true
+ready-passed v phase.Uninitialised h = both-accept (check (not v) Invalid) _ h .1
+ready-passed v phase.Ready h = refl
+ready-passed v phase.Disabled h = both-accept (check (not v) Invalid) _ h .1
+
+-- A valid state that is ready passes them.
+pub ready-accepts : (p : Phase) → isReady p ≡ true → accepts (readyAnswer true p) ≡ true
+ready-accepts phase.Uninitialised h = h
+ready-accepts phase.Ready h = h
+ready-accepts phase.Disabled h = h
+
+-- Refusals 1 to 4 are not recorded.
+pub unrecorded : (v : Bool) (p : Phase) (b : Bool) → isRecorded (numberOf (orElse (readyAnswer v p) (check b Busy))) ≡ false
+unrecorded false p b = refl
+unrecorded true phase.Uninitialised b = refl
+unrecorded true phase.Ready true = refl
+unrecorded true phase.Ready false = refl
+unrecorded true phase.Disabled b = refl
+
+-- ---- checks 5, 7, 8 and 9, as four tests
+
+-- The first of them that applies answers.
+abbrev firstOf : Bool → Bool → Bool → Bool → Answer
+firstOf m r w d =
+    orElse (check m Malformed) (orElse (check r OutOfRange) (orElse (check w CrossesWindow) (check d Denied)))
+
+-- Each of them is recorded,
+first-recorded : (m r w d : Bool) → accepts (firstOf m r w d) ≡ false → isRecorded (numberOf (firstOf m r w d)) ≡ true
+first-recorded true r w d h = refl
+first-recorded false true w d h = refl
+first-recorded false false true d h = refl
+first-recorded false false false true h = refl
+first-recorded false false false false h = cc
+
+-- and the answer is 9 only where check 9 applies.
+first-denied : (m r w d : Bool) → isDenied (firstOf m r w d) ≡ true → d ≡ true
+first-denied true r w d h = cc
+first-denied false true w d h = cc
+first-denied false false true d h = cc
+first-denied false false false true h = refl
+first-denied false false false false h = cc
+
+-- Where they accept, checks 7 and 9 pass.
+first-passed : (m r w d : Bool) → accepts (firstOf m r w d) ≡ true → (r ≡ false) × (d ≡ false)
+first-passed true r w d h = (cc, cc)
+first-passed false true w d h = (cc, cc)
+first-passed false false true d h = (cc, cc)
+first-passed false false false true h = (cc, cc)
+first-passed false false false false h = (refl, refl)
+
+-- Where they accept or deny, checks 5 and 7 pass, and the answer is 9 if check 9 applies.
+first-two : (m r w d : Bool) → (accepts (firstOf m r w d) || isDenied (firstOf m r w d)) ≡ true
+    → (m ≡ false) × (r ≡ false) × (d ≡ isDenied (firstOf m r w d))
+first-two true r w d h = (cc, cc, cc)
+first-two false true w d h = (cc, cc, cc)
+first-two false false true d h = (cc, cc, cc)
+first-two false false false true h = (refl, refl, refl)
+first-two false false false false h = (refl, refl, refl)
+
+-- and the answer is nothing but acceptance or 9.
+first-named : (m r w d : Bool) → (accepts (firstOf m r w d) || isDenied (firstOf m r w d)) ≡ true
+    → firstOf m r w d ≡ cond (isDenied (firstOf m r w d)) Denied Accepted
+first-named true r w d h = cc
+first-named false true w d h = cc
+first-named false false true d h = cc
+first-named false false false true h = refl
+first-named false false false false h = refl
+
+-- So of an operation:
+module _ (c : Controller) (o : Operation) where
+  -- its checks come in this order;
+  in-order : operationAnswer c o ≡ firstOf (malformed o) (outOfRange (c .pages) o) (crossesWindow o) (denied c o)
+  unfolding operationAnswer
+  in-order = refl
+
+  -- refused, it is recorded;
+  pub recorded-if-refused : accepts (operationAnswer c o) ≡ false → isRecorded (numberOf (operationAnswer c o)) ≡ true
+  recorded-if-refused = rw in-order (first-recorded (malformed o) (outOfRange (c .pages) o) (crossesWindow o) (denied c o))
+
+  -- told 9, it is denied;
+  pub denied-if-told : isDenied (operationAnswer c o) ≡ true → denied c o ≡ true
+  denied-if-told = rw in-order (first-denied (malformed o) (outOfRange (c .pages) o) (crossesWindow o) (denied c o))
+
+  -- accepted, it is in range and not denied;
+  pub accepted-passes : accepts (operationAnswer c o) ≡ true → (outOfRange (c .pages) o ≡ false) × (denied c o ≡ false)
+  accepted-passes = rw in-order (first-passed (malformed o) (outOfRange (c .pages) o) (crossesWindow o) (denied c o))
+
+  -- accepted or told 9, it is well formed and in range, and denied if told so,
+  pub asked-in-range : (accepts (operationAnswer c o) || isDenied (operationAnswer c o)) ≡ true
+      → (malformed o ≡ false) × (outOfRange (c .pages) o ≡ false) × (denied c o ≡ isDenied (operationAnswer c o))
+  asked-in-range = rw in-order (first-two (malformed o) (outOfRange (c .pages) o) (crossesWindow o) (denied c o))
+
+  -- and told just that.
+  pub answer-named : (accepts (operationAnswer c o) || isDenied (operationAnswer c o)) ≡ true
+      → operationAnswer c o ≡ cond (isDenied (operationAnswer c o)) Denied Accepted
+  answer-named = rw in-order (first-named (malformed o) (outOfRange (c .pages) o) (crossesWindow o) (denied c o))

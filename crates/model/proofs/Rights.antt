@@ -1,0 +1,136 @@
+-- The look-up of rights and the span check, one turn of a loop at a time, and what a passed check says of each page.
+-- Assumes nothing.
+use Prim.Native.Nat.{ℕ, zero, suc, _+_, _-_, _*_, _/_, _%_, _≤_, _<_, min}
+use native.Mathlib.Nat.{add-zero, add-assoc, sub-zero, min-zero, min-eq-left, min-eq-right, min-le-right}
+use native.Mathlib.Numerals.{add-one}
+use native.Mathlib.Omega.{arith}
+use mathlib.Core.Path.{_≡_, refl, sym, _∙_}
+use mathlib.Core.Bool.{Bool, true, false, cond}
+use mathlib.Core.List.{List}
+use lib.ListN.{length, getD, drop, drop-of-length-le}
+use lib.Seq.{drop-cons}
+use borrow.Author.Tests.{ltb-false, not-false}
+use Rattle.model.specs.Geometry.{pageOf, bankOf, wordInPage}
+use Rattle.model.specs.Kinds.{isBankErase}
+use Rattle.model.specs.Places.{spanStart, spanWords, spanAddress}
+use Rattle.model.specs.Rights.{decides, dataRights, leading, spanPages, pageGrants, allowedWords, denied}
+use Rattle.model.specs.declared.ByteAddress.{ByteAddress}
+use Rattle.model.specs.declared.Operation.{Operation}
+use Rattle.model.specs.declared.Controller.{Controller}
+use Rattle.model.specs.declared.Page.{Page}
+use Rattle.model.specs.declared.Region.{Region}
+use Rattle.model.proofs.Bool.{by-test}
+
+-- ---- the regions, lowest first
+
+-- No region below i decides.
+pub record Undecided (l : List Region) (other : ℕ) (p : Page) (i : ℕ) : Type 0 where
+  pub same : dataRights (drop i l) other p ≡ dataRights l other p
+
+pub undecided-none : {l : List Region} {other : ℕ} {p : Page} → Undecided l other p 0
+undecided-none = record { same = refl }
+
+pub undecided-more : {l : List Region} {other : ℕ} {p : Page} {i : ℕ} (g : Region) → i < length l → Undecided l other p i
+    → decides p (getD l i g) ≡ false → Undecided l other p (i + 1)
+unfolding dataRights
+undecided-more {l = l} {i = i} g h u e = record { same = rw add-one (simp e at (rw (drop-cons l i g h) at (u .same))) }
+
+-- Region i decides, alone.
+pub decided : {l : List Region} {other : ℕ} {p : Page} {i : ℕ} (g : Region) → i < length l → Undecided l other p i
+    → decides p (getD l i g) ≡ true → getD l i g .rights ≡ dataRights l other p
+unfolding dataRights
+decided {l = l} {i = i} g h u e = simp e at (rw (drop-cons l i g h) at (u .same))
+
+-- No region decides.
+pub undecided-all : {l : List Region} {other : ℕ} {p : Page} {i : ℕ} → length l ≤ i → Undecided l other p i
+    → other ≡ dataRights l other p
+unfolding dataRights
+undecided-all {l = l} h u = rw (drop-of-length-le l h) at (u .same)
+
+-- ---- the numbers that pass a test before the first that fails
+
+-- The first i of n numbers pass.
+pub record Passed (test : ℕ → Bool) (from n i : ℕ) : Type 0 where
+  pub so-far : leading test from n ≡ i + leading test (from + i) (n - i)
+
+pub passed-none : {test : ℕ → Bool} {from n : ℕ} → Passed test from n 0
+passed-none {test} {from} {n} = record { so-far = rw (add-zero, sub-zero) (omega arith) }
+
+next : (test : ℕ → Bool) (from n m : ℕ) → n ≡ suc m → leading test from n ≡ cond (test from) (suc (leading test (from + 1) m)) 0
+unfolding leading
+next test from n m e = rw e
+
+pub passed-more : {test : ℕ → Bool} {from n i : ℕ} → i < n → Passed test from n i → test (from + i) ≡ true → Passed test from n (i + 1)
+passed-more {test} {from} {n} {i} h t e =
+    let step : leading test (from + i) (n - i) ≡ suc (leading test (from + i + 1) (n - (i + 1))) =
+    next test (from + i) (n - i) (n - (i + 1)) (omega arith) ∙ rw e in
+    record { so-far = rw (← add-assoc from i 1) (omega (arith, t .so-far, step)) }
+
+-- Number i is the first that fails, or all have passed.
+pub passed-until : {test : ℕ → Bool} {from n i : ℕ} → i < n → Passed test from n i → test (from + i) ≡ false → i ≡ leading test from n
+passed-until {test} {from} {n} {i} h t e =
+    let step : leading test (from + i) (n - i) ≡ 0 = next test (from + i) (n - i) (n - (i + 1)) (omega arith) ∙ rw e in
+    omega (arith, t .so-far, step)
+
+ended : (test : ℕ → Bool) (from n : ℕ) → n ≡ 0 → leading test from n ≡ 0
+unfolding leading
+ended test from n e = rw e
+
+pub passed-all : {test : ℕ → Bool} {from n i : ℕ} → i ≡ n → Passed test from n i → i ≡ leading test from n
+passed-all {test} {from} {n} {i} h t =
+    let rest : leading test (from + i) (n - i) ≡ 0 = ended test (from + i) (n - i) (omega arith) in
+    omega (arith, t .so-far, rest)
+
+-- Of the numbers that pass before the first that fails, each passes.
+pub leading-passed : (test : ℕ → Bool) (from n i : ℕ) → i < leading test from n → test (from + i) ≡ true
+unfolding leading
+leading-passed test from zero i h = absurd (omega arith)
+leading-passed test from (suc n) zero h =
+    by-test (test from) (λ t. rw add-zero t) (λ t. absurd (omega (arith, rw t at h)))
+leading-passed test from (suc n) (suc i) h =
+    let e : from + suc i ≡ from + 1 + i = omega arith in
+    by-test (test from)
+    (λ t. rw e (leading-passed test (from + 1) n i (omega (arith, rw t at h))))
+    (λ t. absurd (omega (arith, rw t at h)))
+
+-- ---- the words before the first page without the right
+
+-- The span check from its parts, each known by an equation.
+pub allowed-by : (c : Controller) (o : Operation) {s : ByteAddress} {p : Page} {w l k : ℕ} → s ≡ spanStart o → w ≡ spanWords o
+    → p ≡ pageOf s → l ≡ leading (pageGrants c o) (p .0) ((s .0 % 1024 + 4 * w + 1023) / 1024) → k ≡ wordInPage s
+    → min w (l * 256 - k) ≡ allowedWords c o
+unfolding allowedWords
+allowed-by c o es ew ep el ek = rw (ek, el, ep, ew, es)
+
+-- The least of w and a - k, by the tests that find it.
+pub none-before : (w a k : ℕ) → a ≤ k → 0 ≡ min w (a - k)
+none-before w a k h =
+    let e : a - k ≡ 0 = omega arith in
+    rw e (sym (min-zero w))
+
+pub some-before : (w a k : ℕ) → a - k < w → a - k ≡ min w (a - k)
+some-before w a k h = sym (min-eq-right (omega arith))
+
+pub all-before : (w a k : ℕ) → w ≤ a - k → w ≡ min w (a - k)
+all-before w a k h = sym (min-eq-left h)
+
+-- ---- what a check 9 that passes says
+
+-- Each page with a word of a span that is not denied grants the right.
+pub span-granted : (c : Controller) (o : Operation) (k : ℕ) → isBankErase o ≡ false → denied c o ≡ false → k < spanWords o
+    → pageGrants c o (pageOf (spanAddress o k) .0) ≡ true
+unfolding denied allowedWords
+span-granted c o k b h l =
+    let s : ℕ = spanStart o .0 in
+    let passed : ℕ = leading (pageGrants c o) (s / 1024) (spanPages o) in
+    let fits : spanWords o ≤ min (spanWords o) (passed * 256 - s % 1024 / 4) = ltb-false _ _ (rw b at h) in
+    let most : min (spanWords o) (passed * 256 - s % 1024 / 4) ≤ passed * 256 - s % 1024 / 4 = min-le-right _ _ in
+    let i : ℕ = (s % 1024 + 4 * k) / 1024 in
+    let e : (s + 4 * k) / 1024 ≡ s / 1024 + i = omega arith in
+    rw e (leading-passed (pageGrants c o) (s / 1024) (spanPages o) i (omega arith))
+
+-- A bank erase that is not denied has its bank's permission.
+pub bank-granted : (c : Controller) (o : Operation) → isBankErase o ≡ true → denied c o ≡ false
+    → getD (c .settings .erase) (bankOf (c .pages) (pageOf (o .address))) false ≡ true
+unfolding denied
+bank-granted c o b h = not-false _ (rw b at h)

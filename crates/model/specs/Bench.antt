@@ -1,0 +1,148 @@
+-- The starred cases of the bench sheet, each put to the definition of a call. (01, 'Bench sheet')
+use Prim.Native.Nat.{ℕ, zero, suc}
+use mathlib.Core.Bool.{Bool, true, false, _&&_}
+use mathlib.Core.List.{List, [], _∷_}
+use lib.Dec.{eqb}
+use lib.ListN.{replicate}
+use Rattle.model.specs.Geometry.{infoCount, byteAddress, firstWord, dataImagePage, specialPage, creatorPage}
+use Rattle.model.specs.Words.{allOnes}
+use Rattle.model.specs.State.{Flash, Leaves, stored, freshController}
+use Rattle.model.specs.Refusals.{numberOf}
+use Rattle.model.specs.Settings.{setInputs, setRegion, setDefault, setInfo, setErase}
+use Rattle.model.specs.Lifecycle.{reset, initialise}
+use Rattle.model.specs.Steps.{start, push, step}
+use Rattle.model.specs.declared.Region.{Region}
+use Rattle.model.specs.declared.Operation.{Operation}
+use Rattle.model.specs.declared.Controller.{Controller}
+use Rattle.model.specs.declared.Stepped.{Stepped}
+
+-- ---- controllers made by reset, inputs, settings and initialise
+
+abbrev pub blank : ℕ → Flash
+blank n = record { words = replicate n allOnes }
+
+-- Every right on the first n information pages of a type.
+unfoldable pub openPages : ℕ → ℕ → ℕ → Controller → Controller
+openPages bank t zero c = c
+openPages bank t (suc n) c = setInfo (openPages bank t n c) bank t n (record { on = true; rights = 7 }) .controller
+
+abbrev pub openBank : ℕ → Controller → Controller
+openBank bank c =
+    setErase (openPages bank 2 (infoCount 2) (openPages bank 1 (infoCount 1) (openPages bank 0 (infoCount 0) c))) bank true
+    .controller
+
+-- All rights given, with provision enabled; the seeds locked or not.
+unfoldable pub allRights : ℕ → Bool → Controller
+allRights d locked =
+    openBank 1
+    (openBank 0
+    (setDefault
+    (setInputs (reset (freshController 0) d .controller) (record { provision = true; locked = locked }) .controller)
+    7 .controller))
+
+abbrev pub ready : ℕ → Controller → Controller
+ready words c = initialise c (blank words) .controller
+
+-- D = 16 and all rights given.
+unfoldable pub bench : Controller
+bench = ready 14848 (allRights 16 false)
+
+-- Region 0, on or off, pages 2 and 3, read only; region 1 on, pages 0 to 7, all rights.
+abbrev pub region : Bool → ℕ → ℕ → ℕ → Region
+region on first count rights = record { on = on; first = record { 0 = first }; count = count; rights = rights }
+
+unfoldable pub twoRegions : Bool → Controller
+twoRegions on = setRegion (setRegion bench 0 (region on 2 2 1) .controller) 1 (region true 0 8 7) .controller
+
+unfoldable pub seedsLocked : Controller
+seedsLocked = ready 14848 (allRights 16 true)
+
+-- ---- operations: kind, partition, information type, byte address, n
+
+abbrev pub op : ℕ → ℕ → ℕ → ℕ → ℕ → Operation
+op kind partition t address n = record {
+  kind = kind;
+  partition = partition;
+  info = t;
+  address = record { 0 = address };
+  count = n;
+}
+
+-- A program of one word at address 0: start, push and step.
+unfoldable pub programOne : Controller → Flash → ℕ → Leaves Stepped
+programOne c f w = step (push (start c (op 1 0 0 0 1) .controller) w .controller) f
+
+unfoldable pub programTwo : ℕ → ℕ → Leaves Stepped
+programTwo v w = programOne (programOne bench (blank 14848) v .result .controller) (programOne bench (blank 14848) v .flash) w
+
+-- ---- the cases, and what a case claims
+
+pub data Case : Type 0 where
+  -- reset with D answers this number
+  resets : ℕ → ℕ → Case
+  -- reset with D, then initialise with an image of so many bus words: this number
+  initialises : ℕ → ℕ → ℕ → Case
+  -- start of an operation answers this number
+  asks : Controller → Operation → ℕ → Case
+  -- a step leaves this word at place 0, and changes so many bits
+  leaves : Leaves Stepped → ℕ → ℕ → Case
+  -- two numbers are equal
+  lies : ℕ → ℕ → Case
+
+abbrev pub holds : Case → Bool
+holds (resets d n) = eqb (numberOf (reset bench d .answer)) n
+holds (initialises d words n) = eqb (numberOf (initialise (reset bench d .controller) (blank words) .answer)) n
+holds (asks c o n) = eqb (numberOf (start c o .answer)) n
+holds (leaves s word bits) =
+    eqb (numberOf (s .result .answer)) 0
+    && (eqb (stored (s .flash) (record { 0 = 0 })) word
+    && eqb (s .result .bits) bits)
+holds (lies place n) = eqb place n
+
+unfoldable pub cases : List Case
+cases =
+    -- Image of 14,848 bus words accepted; 14,847 gives 1. D = 9 gives 1; D = 10 takes 11,776; D = 256 takes 137,728.
+    initialises 16 14848 0
+    ∷ initialises 16 14847 1
+    ∷ resets 9 1
+    ∷ resets 10 0
+    ∷ initialises 10 11776 0
+    ∷ resets 256 0
+    ∷ initialises 256 137728 0
+    -- Creator page begins at bus word 4,352; bank 1 at 7,424, byte address 0x4000.
+    ∷ lies (firstWord (specialPage 16 creatorPage) .0) 4352
+    ∷ lies (firstWord (dataImagePage 16 1 0) .0) 7424
+    ∷ lies (byteAddress 16 1 0 0 .0) 0x4000
+    -- Program at 0x0000, n = 16: allowed; n = 17: 8. At 0x003C, n = 1 allowed, n = 2: 8.
+    ∷ asks bench (op 1 0 0 0x0000 16) 0
+    ∷ asks bench (op 1 0 0 0x0000 17) 8
+    ∷ asks bench (op 1 0 0 0x003C 1) 0
+    ∷ asks bench (op 1 0 0 0x003C 2) 8
+    -- 0x12345678 onto 0xFFFFFFFF leaves 0x12345678, 19 bits changed; then 0xFFFF0000 leaves 0x12340000, 8 changed.
+    ∷ leaves (programOne bench (blank 14848) 0x12345678) 0x12345678 19
+    ∷ leaves (programTwo 0x12345678 0xFFFF0000) 0x12340000 8
+    -- Read 0x7FFC: n = 1 allowed, n = 2 gives 7. Address 2: 5. n = 1,024 at 0 allowed; 1,025: 5.
+    ∷ asks bench (op 0 0 0 0x7FFC 1) 0
+    ∷ asks bench (op 0 0 0 0x7FFC 2) 7
+    ∷ asks bench (op 0 0 0 2 1) 5
+    ∷ asks bench (op 0 0 0 0 1024) 0
+    ∷ asks bench (op 0 0 0 0 1025) 5
+    -- Type 1 at 0x0400: 7. Type 0 at 0x27FC: n = 1 allowed, n = 2: 7.
+    ∷ asks bench (op 0 1 1 0x0400 1) 7
+    ∷ asks bench (op 1 1 1 0x0400 1) 7
+    ∷ asks bench (op 2 1 1 0x0400 1) 7
+    ∷ asks bench (op 0 1 0 0x27FC 1) 0
+    ∷ asks bench (op 0 1 0 0x27FC 2) 7
+    ∷ asks bench (op 1 1 0 0x27FC 1) 0
+    ∷ asks bench (op 1 1 0 0x27FC 2) 7
+    -- Regions 0 and 1: program on page 2 is 9, on page 4 allowed. Region 0 off: page 2 allowed.
+    ∷ asks (twoRegions true) (op 1 0 0 0x0800 1) 9
+    ∷ asks (twoRegions true) (op 1 0 0 0x1000 1) 0
+    ∷ asks (twoRegions false) (op 1 0 0 0x0800 1) 0
+    -- Provision on and seeds locked: creator page 9.
+    ∷ asks seedsLocked (op 0 1 0 0x0400 1) 9
+    ∷ asks seedsLocked (op 1 1 0 0x0400 1) 9
+    ∷ asks seedsLocked (op 2 1 0 0x0400 1) 9
+    -- Fresh controller, kind 9: 3, since 3 precedes 5.
+    ∷ asks (allRights 16 false) (op 9 0 0 0 1) 3
+    ∷ []

@@ -1,0 +1,55 @@
+-- The refusals by number, and chains of checks. (01, 'When the desk says no')
+use Prim.Native.Nat.{ℕ}
+use mathlib.Core.Bool.{Bool, not, cond}
+use lib.Dec.{eqb}
+use Rattle.model.specs.declared.Answer.{Answer}
+use Rattle.model.specs.declared.Answer.the-variants.{Accepted, Invalid, Disabled, Uninitialised, Busy, Malformed, ShortBuffer, OutOfRange, CrossesWindow, Denied, QueueEmpty, QueueFull, Unexpected, BadSetting}
+use Rattle.model.specs.declared.Controller.{Controller}
+use Rattle.model.specs.declared.Outcome.{Outcome}
+use Rattle.model.specs.declared.Phase.{Phase}
+use Rattle.model.specs.declared.Phase.the-variants as phase
+
+-- The number of an answer: 0 if nothing was refused, else the refusal's number in 01.
+abbrev pub numberOf : Answer → ℕ
+numberOf Accepted = 0
+numberOf Invalid = 1
+numberOf Disabled = 2
+numberOf Uninitialised = 3
+numberOf Busy = 4
+numberOf Malformed = 5
+numberOf ShortBuffer = 6
+numberOf OutOfRange = 7
+numberOf CrossesWindow = 8
+numberOf Denied = 9
+numberOf QueueEmpty = 10
+numberOf QueueFull = 11
+numberOf Unexpected = 12
+numberOf BadSetting = 13
+
+abbrev pub accepts : Answer → Bool
+accepts a = eqb (numberOf a) 0
+
+abbrev pub isDenied : Answer → Bool
+isDenied a = eqb (numberOf a) 9
+
+-- A check: the refusal if its test holds.
+abbrev pub check : Bool → Answer → Answer
+check test a = cond test a Accepted
+
+-- The first check that applies answers.
+abbrev pub orElse : Answer → Answer → Answer
+orElse a b = cond (accepts a) b a
+
+-- Refusal 2 if disabled (01: shut), 3 if uninitialised (01: still fresh).
+abbrev pub phaseAnswer : Phase → Answer
+phaseAnswer phase.Uninitialised = Uninitialised
+phaseAnswer phase.Ready = Accepted
+phaseAnswer phase.Disabled = Disabled
+
+-- Checks 1, 2 and 3, with which start, push, step, host read, view and whole operations begin.
+abbrev pub readyAnswer : Bool → Phase → Answer
+readyAnswer valid p = orElse (check (not valid) Invalid) (phaseAnswer p)
+
+-- What a call leaves: the next state if it accepts, else the state as it was.
+abbrev pub settle : Controller → Controller → Answer → Outcome
+settle c next a = record { controller = cond (accepts a) next c; answer = a }

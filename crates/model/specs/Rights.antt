@@ -1,0 +1,87 @@
+-- Who may touch which page: the look-up of rights, the seed pages, and the one check over a span of pages.
+-- (01, 'Who may touch which page')
+use Prim.Native.Nat.{ℕ, zero, suc, _+_, _-_, _*_, _/_, _%_, min}
+use mathlib.Core.Bool.{Bool, true, false, _&&_, _||_, not, cond}
+use mathlib.Core.List.{List, [], _∷_}
+use lib.Dec.{ltb, leb, eqb}
+use lib.ListN.{getD}
+use Rattle.model.specs.Geometry.{pageBytes, pageWords, pageOf, bankOf, pageInBank, wordInPage, infoIndex, creatorPage, ownerPage}
+use Rattle.model.specs.Kinds.{isInformation, isBankErase, rightNeeded}
+use Rattle.model.specs.Places.{spanStart, spanWords}
+use Rattle.model.specs.State.{pageOff}
+use Rattle.model.specs.declared.Page.{Page}
+use Rattle.model.specs.declared.Inputs.{Inputs}
+use Rattle.model.specs.declared.Region.{Region}
+use Rattle.model.specs.declared.PageSetting.{PageSetting}
+use Rattle.model.specs.declared.Settings.{Settings}
+use Rattle.model.specs.declared.Operation.{Operation}
+use Rattle.model.specs.declared.Controller.{Controller}
+
+-- Rights are numbers that add up: one of them is among them.
+abbrev pub grants : ℕ → ℕ → Bool
+grants rights right = eqb (rights / right % 2) 1
+
+-- ---- data pages
+
+-- A region that is on and holds the page.
+abbrev pub decides : Page → Region → Bool
+decides p g = g .on && (leb (g .first .0) (p .0) && ltb (p .0) (g .first .0 + g .count))
+
+-- The lowest-numbered region that is on and holds the page decides, alone. If there is none, the default rights decide.
+unfoldable pub dataRights : List Region → ℕ → Page → ℕ
+dataRights [] other p = other
+dataRights (g ∷ gs) other p = cond (decides p g) (g .rights) (dataRights gs other p)
+
+-- ---- information pages, by their index 0 to 25
+
+-- Creator page: denied unless provision is enabled and seeds aren't locked. Owner page: denied unless provision is enabled.
+unfoldable pub seedClosed : Inputs → ℕ → Bool
+seedClosed i page =
+    (eqb page (infoIndex 0 0 creatorPage) && not (i .provision && not (i .locked)))
+    || (eqb page (infoIndex 0 0 ownerPage) && not (i .provision))
+
+-- Each page has its own switch and rights; switched off means denied.
+abbrev pub pageRights : PageSetting → ℕ
+pageRights s = cond (s .on) (s .rights) 0
+
+unfoldable pub infoRights : Inputs → Settings → ℕ → ℕ
+infoRights i s page = cond (seedClosed i page) 0 (pageRights (getD (s .info) page pageOff))
+
+-- ---- the look-up, for either partition; denied pages have no rights
+
+unfoldable pub rightsAt : Controller → Bool → ℕ → Page → ℕ
+rightsAt c information t p =
+    cond information
+    (infoRights (c .inputs) (c .settings) (infoIndex (bankOf (c .pages) p) t (pageInBank (c .pages) p)))
+    (dataRights (c .settings .regions) (c .settings .«default_rights») p)
+
+abbrev pub pageGrants : Controller → Operation → ℕ → Bool
+pageGrants c o p = grants (rightsAt c (isInformation o) (o .info) (record { 0 = p })) (rightNeeded o)
+
+-- ---- an operation's span
+
+-- How many of the n numbers from `from` on pass a test before the first that fails.
+unfoldable pub leading : (ℕ → Bool) → ℕ → ℕ → ℕ
+leading test from zero = 0
+leading test from (suc n) = cond (test from) (suc (leading test (from + 1) n)) 0
+
+-- The pages with one of the span's words, from its first word's page on.
+abbrev pub spanPages : Operation → ℕ
+spanPages o = (spanStart o .0 % pageBytes + 4 * spanWords o + (pageBytes - 1)) / pageBytes
+
+-- The words before the first page without the right, or all of the span's words if every page has it.
+unfoldable pub allowedWords : Controller → Operation → ℕ
+allowedWords c o =
+    min (spanWords o)
+    (leading (pageGrants c o) (pageOf (spanStart o) .0) (spanPages o) * pageWords - wordInPage (spanStart o))
+
+-- Bank erase looks only at its bank's permission, even over seed pages (000). Every page of another span needs the right.
+unfoldable pub denied : Controller → Operation → Bool
+denied c o =
+    cond (isBankErase o)
+    (not (getD (c .settings .erase) (bankOf (c .pages) (pageOf (o .address))) false))
+    (ltb (allowedWords c o) (spanWords o))
+
+-- How many words of a read are the stored ones: all, or none if one of its pages denies it (01: the whole read is blank).
+unfoldable pub readableWords : Controller → Operation → ℕ
+readableWords c o = cond (denied c o) 0 (o .count)

@@ -1,0 +1,173 @@
+-- The controller's state and the flash that it is lent; the parts of the state that calls change. (01, 'Phases')
+use Prim.Native.Nat.{ℕ}
+use mathlib.Core.Bool.{Bool, true, false}
+use mathlib.Core.List.{List}
+use lib.Dec.{eqb}
+use lib.ListN.{length, getD, set, take, drop, replicate}
+use Rattle.model.specs.Geometry.{pageWords, imageWords, firstWord}
+use Rattle.model.specs.Queue.{emptyQueue}
+use Rattle.model.specs.declared.ImagePage.{ImagePage}
+use Rattle.model.specs.declared.BusWord.{BusWord}
+use Rattle.model.specs.declared.Phase.{Phase}
+use Rattle.model.specs.declared.Phase.the-variants.{Uninitialised, Ready, Disabled}
+use Rattle.model.specs.declared.Inputs.{Inputs}
+use Rattle.model.specs.declared.Region.{Region}
+use Rattle.model.specs.declared.PageSetting.{PageSetting}
+use Rattle.model.specs.declared.Settings.{Settings}
+use Rattle.model.specs.declared.Errors.{Errors}
+use Rattle.model.specs.declared.Queue.{Queue}
+use Rattle.model.specs.declared.Queues.{Queues}
+use Rattle.model.specs.declared.Progress.{Progress}
+use Rattle.model.specs.declared.Progress.the-variants.{Idle, Running}
+use Rattle.model.specs.declared.Controller.{Controller}
+
+-- The flash that a caller lends: the bus words of the image.
+pub record Flash : Type 0 where
+  pub words : List ℕ
+
+-- The word stored at a place, and the flash with another word there.
+abbrev pub stored : Flash → BusWord → ℕ
+stored f p = getD (f .words) (p .0) 0
+
+abbrev pub withWord : Flash → BusWord → ℕ → Flash
+withWord f p w = record { words = set (f .words) (p .0) w }
+
+-- The image is as long as D says. (01, refusal 1)
+abbrev pub imageFits : ℕ → Flash → Bool
+imageFits d f = eqb (length (f .words)) (imageWords d)
+
+-- What a call that is lent the flash leaves: its result, and the flash.
+pub record Leaves (Result : Type 0) : Type 0 where
+  pub result : Result
+  pub flash : Flash
+
+-- Controller and flash: what a list of calls works on, each as the one before left them.
+pub record State : Type 0 where
+  pub controller : Controller
+  pub flash : Flash
+
+-- The words of a page of the image.
+abbrev pub wordsOf : Flash → ImagePage → List ℕ
+wordsOf f q = take pageWords (drop (firstWord q .0) (f .words))
+
+-- ---- one part changed, the others as they were
+
+abbrev pub withPhase : Controller → Phase → Controller
+withPhase c p = record {
+  pages = c .pages;
+  phase = p;
+  inputs = c .inputs;
+  settings = c .settings;
+  errors = c .errors;
+  queues = c .queues;
+  progress = c .progress;
+}
+
+abbrev pub withInputs : Controller → Inputs → Controller
+withInputs c i = record {
+  pages = c .pages;
+  phase = c .phase;
+  inputs = i;
+  settings = c .settings;
+  errors = c .errors;
+  queues = c .queues;
+  progress = c .progress;
+}
+
+abbrev pub withSettings : Controller → Settings → Controller
+withSettings c s = record {
+  pages = c .pages;
+  phase = c .phase;
+  inputs = c .inputs;
+  settings = s;
+  errors = c .errors;
+  queues = c .queues;
+  progress = c .progress;
+}
+
+abbrev pub withErrors : Controller → Errors → Controller
+withErrors c e = record {
+  pages = c .pages;
+  phase = c .phase;
+  inputs = c .inputs;
+  settings = c .settings;
+  errors = e;
+  queues = c .queues;
+  progress = c .progress;
+}
+
+abbrev pub withQueues : Controller → Queues → Controller
+withQueues c q = record {
+  pages = c .pages;
+  phase = c .phase;
+  inputs = c .inputs;
+  settings = c .settings;
+  errors = c .errors;
+  queues = q;
+  progress = c .progress;
+}
+
+abbrev pub withProgress : Controller → Progress → Controller
+withProgress c p = record {
+  pages = c .pages;
+  phase = c .phase;
+  inputs = c .inputs;
+  settings = c .settings;
+  errors = c .errors;
+  queues = c .queues;
+  progress = p;
+}
+
+abbrev pub withReads : Queues → Queue → Queues
+withReads q r = record { reads = r; programs = q .programs }
+
+abbrev pub withPrograms : Queues → Queue → Queues
+withPrograms q p = record { reads = q .reads; programs = p }
+
+-- ---- the state after reset: every setting and input off or 0, empty queues and records
+
+abbrev pub inputsOff : Inputs
+inputsOff = record { provision = false; locked = false }
+
+abbrev pub regionOff : Region
+regionOff = record { on = false; first = record { 0 = 0 }; count = 0; rights = 0 }
+
+abbrev pub pageOff : PageSetting
+pageOff = record { on = false; rights = 0 }
+
+abbrev pub settingsOff : Settings
+settingsOff = record {
+  regions = replicate 8 regionOff;
+  «default_rights» = 0;
+  info = replicate 26 pageOff;
+  erase = replicate 2 false;
+}
+
+abbrev pub noErrors : Errors
+noErrors = record { malformed = false; range = false; window = false; denied = false; address = record { 0 = 0 } }
+
+abbrev pub emptyQueues : Queues
+emptyQueues = record { reads = emptyQueue; programs = emptyQueue }
+
+-- (01: fresh)
+abbrev pub freshController : ℕ → Controller
+freshController d = record {
+  pages = d;
+  phase = Uninitialised;
+  inputs = inputsOff;
+  settings = settingsOff;
+  errors = noErrors;
+  queues = emptyQueues;
+  progress = Idle;
+}
+
+-- ---- the phase, and whether an operation is in progress
+
+abbrev pub isReady : Phase → Bool
+isReady Uninitialised = false
+isReady Ready = true
+isReady Disabled = false
+
+abbrev pub isBusy : Progress → Bool
+isBusy Idle = false
+isBusy (Running w) = true

@@ -1,0 +1,105 @@
+-- When a state is valid (01: 'a state is ours'), and check 1. (01, 'When the desk says no')
+use Prim.Native.Nat.{ℕ, _+_}
+use mathlib.Core.Bool.{Bool, true, _&&_, _||_, not}
+use mathlib.Core.List.{List, [], _∷_}
+use lib.Dec.{ltb, leb, eqb}
+use Rattle.model.specs.Geometry.{pagesFit, dataPages}
+use Rattle.model.specs.Kinds.{isRead, isProgram, isPageErase, isBankErase}
+use Rattle.model.specs.Places.{totalWords}
+use Rattle.model.specs.Queue.{queueWords, isEmpty}
+use Rattle.model.specs.State.{Flash, imageFits, isReady, isBusy}
+use Rattle.model.specs.Rights.{readableWords}
+use Rattle.model.specs.Refusals.{accepts, isDenied}
+use Rattle.model.specs.Checks.{operationAnswer}
+use Rattle.model.specs.declared.Region.{Region}
+use Rattle.model.specs.declared.PageSetting.{PageSetting}
+use Rattle.model.specs.declared.Settings.{Settings}
+use Rattle.model.specs.declared.Errors.{Errors}
+use Rattle.model.specs.declared.Queues.{Queues}
+use Rattle.model.specs.declared.Work.{Work}
+use Rattle.model.specs.declared.Work.the-variants.{Read, Program, Erase}
+use Rattle.model.specs.declared.Progress.{Progress}
+use Rattle.model.specs.declared.Progress.the-variants.{Idle, Running}
+use Rattle.model.specs.declared.Controller.{Controller}
+
+-- A test that holds of each element.
+abbrev pub all : {A : Type 0} → (A → Bool) → List A → Bool
+all test [] = true
+all test (x ∷ xs) = test x && all test xs
+
+-- ---- its settings pass 13
+
+-- Rights over 7, or a region whose first page plus count exceeds 2D, fail.
+abbrev pub rightsFit : ℕ → Bool
+rightsFit r = leb r 7
+
+abbrev pub regionFits : ℕ → Region → Bool
+regionFits d g = leb (g .first .0 + g .count) (dataPages d) && rightsFit (g .rights)
+
+abbrev pub pageFits : PageSetting → Bool
+pageFits p = rightsFit (p .rights)
+
+unfoldable pub settingsFit : ℕ → Settings → Bool
+settingsFit d s =
+    rightsFit (s .«default_rights») && (all (regionFits d) (s .regions) && all pageFits (s .info))
+
+-- ---- recorded kinds are among 5, 7, 8 and 9 (the type says so), the last address 0 if there are none
+
+abbrev pub anyRecorded : Errors → Bool
+anyRecorded e = e .malformed || (e .range || (e .window || e .denied))
+
+abbrev pub errorsFit : Errors → Bool
+errorsFit e = anyRecorded e || eqb (e .address .0) 0
+
+-- ---- queues hold at most 16 words, and none unless ready
+
+abbrev pub bothEmpty : Queues → Bool
+bothEmpty q = isEmpty (q .reads) && isEmpty (q .programs)
+
+abbrev pub queuesFit : Bool → Queues → Bool
+queuesFit ready q =
+    (leb (q .reads .len) queueWords && leb (q .programs .len) queueWords) && (ready || bothEmpty q)
+
+-- ---- an operation is in progress only when ready
+
+abbrev pub progressFits : Bool → Progress → Bool
+progressFits ready p = ready || not (isBusy p)
+
+-- It has words left to move, and passes 5, 7, 8 and 9, save that a denied read is there as blank and no other read is.
+-- The program queue holds the words pushed and not yet moved, at most n pushed in all, and is empty with no program in
+-- progress.
+unfoldable pub workFits : Controller → Work → Bool
+workFits c (Read o moved readable) =
+    isRead o
+    && (ltb moved (totalWords (c .pages) o)
+    && ((accepts (operationAnswer c o) || isDenied (operationAnswer c o))
+    && (eqb readable (readableWords c o)
+    && isEmpty (c .queues .programs))))
+workFits c (Program o moved) =
+    isProgram o
+    && (ltb moved (totalWords (c .pages) o)
+    && (accepts (operationAnswer c o)
+    && leb (moved + c .queues .programs .len) (o .count)))
+workFits c (Erase o moved) =
+    (isPageErase o || isBankErase o)
+    && (ltb moved (totalWords (c .pages) o)
+    && (accepts (operationAnswer c o)
+    && isEmpty (c .queues .programs)))
+
+unfoldable pub runningFits : Controller → Progress → Bool
+runningFits c Idle = isEmpty (c .queues .programs)
+runningFits c (Running w) = workFits c w
+
+-- A state is valid (01: ours) exactly if all of this holds.
+unfoldable pub valid : Controller → Bool
+valid c =
+    pagesFit (c .pages)
+    && (settingsFit (c .pages) (c .settings)
+    && (errorsFit (c .errors)
+    && (queuesFit (isReady (c .phase)) (c .queues)
+    && (progressFits (isReady (c .phase)) (c .progress)
+    && runningFits c (c .progress)))))
+
+-- Check 1 of a call that is lent the flash: the state is valid, and the image as long as D says.
+unfoldable pub validWith : Controller → Flash → Bool
+validWith c f = valid c && imageFits (c .pages) f

@@ -1,0 +1,181 @@
+// The types of the model: what a caller hands in, what the controller holds, and what a call answers.
+// What each call does is defined in specs/. There are no functions here.
+
+// A page as byte addresses count it: address / 1,024. The data pages are 0 to 2D - 1 over both banks.
+pub struct Page(pub u32);
+
+// A page as the image counts it: 0 to 2(D + 13) - 1.
+pub struct ImagePage(pub u32);
+
+// A bus word of the image, counted from its start.
+pub struct BusWord(pub u32);
+
+// A byte address, as operations and host reads give it.
+pub struct ByteAddress(pub u32);
+
+// Reset leaves Uninitialised (01: fresh), initialise Ready, RMA Disabled (01: shut).
+pub enum Phase {
+    Uninitialised,
+    Ready,
+    Disabled,
+}
+
+// The life-cycle inputs.
+pub struct Inputs {
+    pub provision: bool,
+    pub locked: bool,
+}
+
+// A memory protection region: `count` data pages from `first` on.
+pub struct Region {
+    pub on: bool,
+    pub first: Page,
+    pub count: u32,
+    pub rights: u8,
+}
+
+// The setting of one information page.
+pub struct PageSetting {
+    pub on: bool,
+    pub rights: u8,
+}
+
+// What the setting calls set. `info` has 13 pages of bank 0, then 13 of bank 1; `erase` a permission for each bank.
+pub struct Settings {
+    pub regions: [Region; 8],
+    pub default_rights: u8,
+    pub info: [PageSetting; 26],
+    pub erase: [bool; 2],
+}
+
+// The error record: the recorded kinds (refusals 5, 7, 8 and 9), and the address of the last one.
+pub struct Errors {
+    pub malformed: bool,
+    pub range: bool,
+    pub window: bool,
+    pub denied: bool,
+    pub address: ByteAddress,
+}
+
+// A queue of bus words. It holds the first `len` of `words`, oldest first; the places after them are no part of it.
+pub struct Queue {
+    pub words: [u32; 16],
+    pub len: u32,
+}
+
+pub struct Queues {
+    pub reads: Queue,
+    pub programs: Queue,
+}
+
+// An operation as a caller asks for it: `info` is the information type, `count` the number n of bus words.
+pub struct Operation {
+    pub kind: u8,
+    pub partition: u8,
+    pub info: u8,
+    pub address: ByteAddress,
+    pub count: u32,
+}
+
+// An operation that was started, and how many of its words have moved. Of a read, the first `readable` words are
+// the stored ones and the others are ones; a blank read has none.
+pub enum Work {
+    Read {
+        op: Operation,
+        moved: u32,
+        readable: u32,
+    },
+    Program {
+        op: Operation,
+        moved: u32,
+    },
+    Erase {
+        op: Operation,
+        moved: u32,
+    },
+}
+
+// What is in progress.
+pub enum Progress {
+    Idle,
+    Running(Work),
+}
+
+// The whole state. `pages` is D, the number of data pages in each bank.
+pub struct Controller {
+    pub pages: u32,
+    pub phase: Phase,
+    pub inputs: Inputs,
+    pub settings: Settings,
+    pub errors: Errors,
+    pub queues: Queues,
+    pub progress: Progress,
+}
+
+// A call's answer: accepted, or the refusal. specs/Refusals.antt gives each its number in 01.
+pub enum Answer {
+    Accepted,
+    Invalid,
+    Disabled,
+    Uninitialised,
+    Busy,
+    Malformed,
+    ShortBuffer,
+    OutOfRange,
+    CrossesWindow,
+    Denied,
+    QueueEmpty,
+    QueueFull,
+    Unexpected,
+    BadSetting,
+}
+
+// What a step did: nothing since it was refused, a word moved, the last word moved, or nothing yet (01: waiting).
+pub enum Movement {
+    None,
+    Moved,
+    Finished,
+    Stalled,
+}
+
+// Of reset, the inputs, the settings, start, push, clear and RMA.
+pub struct Outcome {
+    pub controller: Controller,
+    pub answer: Answer,
+}
+
+// Of pop and host read.
+pub struct Fetched {
+    pub controller: Controller,
+    pub answer: Answer,
+    pub word: u32,
+}
+
+// Of step.
+pub struct Stepped {
+    pub controller: Controller,
+    pub answer: Answer,
+    pub movement: Movement,
+    pub bits: u32,
+}
+
+// The creator and the owner seed, or zeros where none are handed out.
+pub struct Seeds {
+    pub given: bool,
+    pub creator: [u32; 8],
+    pub owner: [u32; 8],
+}
+
+// Of initialise.
+pub struct Initialised {
+    pub controller: Controller,
+    pub answer: Answer,
+    pub seeds: Seeds,
+}
+
+// Of a whole operation: the bits are the sum over its steps.
+pub struct Completed {
+    pub controller: Controller,
+    pub answer: Answer,
+    pub bits: u32,
+}
