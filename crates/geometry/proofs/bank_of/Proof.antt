@@ -1,0 +1,12 @@
+-- `geometry::bank_of` meets its contract. Assumes nothing.
+use borrow.Author.Needs.{needs}
+use borrow.Author.Tests.{lt-ltb, le-ltb}
+use Rattle.geometry.proofs.bank_of.Statement.{statement}
+use Rattle.geometry.proofs.bank_of.Tie as tie
+
+pub bank-of-spec : {M : Type 1} → statement M
+bank-of-spec =
+    tie.close
+    (tie.spec
+    (λ c. (simp (lt-ltb _ _ (c .if1 .taken)), search needs))
+    (λ c. (simp (le-ltb _ _ (c .if1 .left)), search needs)))

@@ -1,0 +1,92 @@
+// Answers by number, and chains of checks: the first that applies answers.
+ghost use mathlib.Core.Path.{_≡_};
+ghost use mathlib.Core.Bool.{cond};
+ghost use Rattle.model.specs.Refusals.{numberOf, accepts, isDenied, check, orElse, phaseAnswer, readyAnswer, settle};
+use model::Answer;
+use model::Controller;
+use model::Outcome;
+use model::Phase;
+
+// The answer's number in document 01; 0 if nothing was refused.
+pub fn number_of(a: Answer) -> u8
+    ensures { λ r. ⌜ r ≡ numberOf a ⌝ }
+{
+    match a {
+        Answer::Accepted => 0,
+        Answer::Invalid => 1,
+        Answer::Disabled => 2,
+        Answer::Uninitialised => 3,
+        Answer::Busy => 4,
+        Answer::Malformed => 5,
+        Answer::ShortBuffer => 6,
+        Answer::OutOfRange => 7,
+        Answer::CrossesWindow => 8,
+        Answer::Denied => 9,
+        Answer::QueueEmpty => 10,
+        Answer::QueueFull => 11,
+        Answer::Unexpected => 12,
+        Answer::BadSetting => 13,
+    }
+}
+
+pub fn accepts(a: Answer) -> bool
+    ensures { λ r. ⌜ r ≡ accepts a ⌝ }
+{
+    number_of(a) == 0
+}
+
+pub fn is_denied(a: Answer) -> bool
+    ensures { λ r. ⌜ r ≡ isDenied a ⌝ }
+{
+    number_of(a) == 9
+}
+
+// A check: the refusal if its test holds.
+pub fn check(test: bool, refusal: Answer) -> Answer
+    ensures { λ r. ⌜ r ≡ check test refusal ⌝ }
+{
+    if test { refusal } else { Answer::Accepted }
+}
+
+// The first of two checks that applies.
+pub fn or_else(a: Answer, b: Answer) -> Answer
+    ensures { λ r. ⌜ r ≡ orElse a b ⌝ }
+{
+    if accepts(a) { b } else { a }
+}
+
+// Check 2 or 3 of a phase.
+pub fn phase_answer(p: Phase) -> Answer
+    ensures { λ r. ⌜ r ≡ phaseAnswer p ⌝ }
+{
+    match p {
+        Phase::Uninitialised => Answer::Uninitialised,
+        Phase::Ready => Answer::Accepted,
+        Phase::Disabled => Answer::Disabled,
+    }
+}
+
+// Checks 1, 2 and 3.
+pub fn ready_answer(valid: bool, p: Phase) -> Answer
+    ensures { λ r. ⌜ r ≡ readyAnswer valid p ⌝ }
+{
+    let phase = phase_answer(p);
+    or_else(check(!valid, Answer::Invalid), phase)
+}
+
+// The next state if the call is accepted, else the state as it was.
+pub fn settle(c: Controller, next: Controller, answer: Answer) -> Outcome
+    ensures { λ r. ⌜ r ≡ settle c next answer ⌝ }
+{
+    if accepts(answer) {
+        Outcome {
+            controller: next,
+            answer,
+        }
+    } else {
+        Outcome {
+            controller: c,
+            answer,
+        }
+    }
+}

@@ -1,0 +1,56 @@
+// The bit rules: what programming and erasing make of a bus word, and how many bits that changes.
+ghost use mathlib.Core.Path.{_≡_};
+ghost use Prim.Native.Nat.{_<_, _≤_};
+ghost use lib.ListN.{length, getD, set};
+ghost use Rattle.model.specs.Words.{programmed, changedBits, allOnes};
+use model::BusWord;
+
+// A bit stays one only if both are one.
+pub fn programmed(old: u32, new: u32) -> u32
+    ensures { λ r. ⌜ r ≡ programmed old new ⌝ }
+{
+    old & new
+}
+
+// The number of the 32 bit places where the two words differ, counted place by place.
+pub fn changed_bits(old: u32, new: u32) -> u32
+    ensures { λ r. ⌜ (r ≡ changedBits old new) × (r ≤ 32) ⌝ }
+{
+    let mut a = old;
+    let mut b = new;
+    let mut count: u32 = 0;
+    for place in 0..32u32 {
+        if a % 2 != b % 2 {
+            count += 1;
+        }
+        a = a / 2;
+        b = b / 2;
+    }
+    count
+}
+
+// Programs a word of the image, and answers the bits that this changes.
+pub fn program_word(image: &mut [u32], at: BusWord, new: u32) -> u32
+    requires { ⌜ at .0 < length (now image) ⌝ }
+    ensures { λ r. ⌜ (r ≡ changedBits (getD (now (image .entry)) (at .0) 0) (programmed (getD (now (image .entry)) (at .0) 0) new)) × (r ≤ 32) ⌝ }
+    ensures { λ _. ⌜ now (image .exit) ≡ set (now (image .entry)) (at .0) (programmed (getD (now (image .entry)) (at .0) 0) new) ⌝ }
+{
+    let place = at.0 as usize;
+    let old = image[place];
+    let combined = programmed(old, new);
+    image[place] = combined;
+    changed_bits(old, combined)
+}
+
+// Erases a word of the image, and answers the bits that this changes.
+pub fn erase_word(image: &mut [u32], at: BusWord) -> u32
+    requires { ⌜ at .0 < length (now image) ⌝ }
+    ensures { λ r. ⌜ (r ≡ changedBits (getD (now (image .entry)) (at .0) 0) allOnes) × (r ≤ 32) ⌝ }
+    ensures { λ _. ⌜ now (image .exit) ≡ set (now (image .entry)) (at .0) allOnes ⌝ }
+{
+    let place = at.0 as usize;
+    let old = image[place];
+    let ones = 0xFFFF_FFFFu32;
+    image[place] = ones;
+    changed_bits(old, ones)
+}
