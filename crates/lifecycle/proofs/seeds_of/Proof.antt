@@ -1,0 +1,16 @@
+-- `lifecycle::seeds_of` meets its contract. Assumes nothing.
+use borrow.Author.Needs.{needs}
+use native.Mathlib.Omega.{arith}
+use Rattle.lifecycle.proofs.seeds_of.Statement.{statement}
+use Rattle.lifecycle.proofs.seeds_of.Tie as tie
+
+pub seeds-of-spec : {M : Type 1} → statement M
+seeds-of-spec =
+    tie.close (tie.spec
+    (λ c κs. search needs)
+    (λ c κs. search needs)
+    (λ c κs. rw (c .first-word .ensures, c .before .special-page .ensures .0) (omega arith))
+    (λ c κs. search needs)
+    (λ c κs. search needs)
+    (λ c κs. rw (c .first-word2 .ensures, c .before .special-page2 .ensures .0) (omega arith))
+    (λ c. rw (c .seed2 .ensures, c .before .first-word2 .ensures, c .before .before .special-page2 .ensures .0, c .before .before .before .seed .ensures, c .before .before .before .before .first-word .ensures, c .before .before .before .before .before .special-page .ensures .0)))

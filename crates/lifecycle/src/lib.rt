@@ -1,0 +1,230 @@
+// Reset, initialise with the seeds, and RMA.
+ghost use mathlib.Core.Path.{_≡_};
+ghost use Prim.Native.Nat.{_+_, _-_, _≤_};
+ghost use lib.ListN.{length, take, drop, replicate};
+ghost use lib.Seq.{sets};
+ghost use Rattle.model.specs.Geometry.{imageWords};
+ghost use Rattle.model.specs.Words.{allOnes};
+ghost use Rattle.model.specs.State.{settingsOff, emptyQueues, freshController};
+ghost use Rattle.model.specs.Lifecycle.{reset, isDisabled, seedWords, noSeeds, seedsOf, initialiseAnswer, initialise, wiped, rmaAnswer, rmaController, rma};
+use model::Answer;
+use model::BusWord;
+use model::Controller;
+use model::Initialised;
+use model::Inputs;
+use model::Outcome;
+use model::Page;
+use model::PageSetting;
+use model::Phase;
+use model::Progress;
+use model::Queues;
+use model::Region;
+use model::Seeds;
+use model::Settings;
+
+// ---- reset
+
+fn settings_off() -> Settings
+    ensures { λ r. ⌜ r ≡ settingsOff ⌝ }
+{
+    let region = Region {
+        on: false,
+        first: Page(0),
+        count: 0,
+        rights: 0,
+    };
+    let page = PageSetting {
+        on: false,
+        rights: 0,
+    };
+    Settings {
+        regions: [region; 8],
+        default_rights: 0,
+        info: [page; 26],
+        erase: [false; 2],
+    }
+}
+
+fn empty_queues() -> Queues
+    ensures { λ r. ⌜ r ≡ emptyQueues ⌝ }
+{
+    let reads = queue::empty();
+    let programs = queue::empty();
+    Queues { reads, programs }
+}
+
+// Every setting and input off or 0, empty queues and records: what reset gives, and a state to hand to a first reset.
+pub fn fresh(d: u32) -> Controller
+    ensures { λ r. ⌜ r ≡ freshController d ⌝ }
+{
+    let settings = settings_off();
+    let queues = empty_queues();
+    let errors = state::no_errors();
+    Controller {
+        pages: d,
+        phase: Phase::Uninitialised,
+        inputs: Inputs {
+            provision: false,
+            locked: false,
+        },
+        settings,
+        errors,
+        queues,
+        progress: Progress::Idle,
+    }
+}
+
+// Takes any state, and checks only its new D.
+pub fn reset(c: Controller, d: u32) -> Outcome
+    ensures { λ r. ⌜ r ≡ reset c d ⌝ }
+{
+    let answer = refusals::check(!geometry::pages_fit(d), Answer::Invalid);
+    let next = fresh(d);
+    refusals::settle(c, next, answer)
+}
+
+// ---- initialise
+
+fn is_disabled(p: Phase) -> bool
+    ensures { λ r. ⌜ r ≡ isDisabled p ⌝ }
+{
+    match p {
+        Phase::Uninitialised => false,
+        Phase::Ready => false,
+        Phase::Disabled => true,
+    }
+}
+
+// Checks 1, 2 and 12 (when ready).
+fn initialise_answer(c: Controller, image: &[u32]) -> Answer
+    ensures { λ r. ⌜ r ≡ initialiseAnswer c (record { words = now (image .entry) }) ⌝ }
+{
+    let phase = c.phase;
+    let invalid = refusals::check(!state::valid_with(c, image), Answer::Invalid);
+    let disabled = refusals::check(is_disabled(phase), Answer::Disabled);
+    let ready = refusals::check(state::is_ready(phase), Answer::Unexpected);
+    refusals::or_else(invalid, refusals::or_else(disabled, ready))
+}
+
+// A seed is the first 8 bus words of its page.
+fn seed(image: &[u32], at: BusWord) -> [u32; 8]
+    requires { ⌜ at .0 + 8 ≤ length (now image) ⌝ }
+    ensures { λ r. ⌜ r ≡ take seedWords (drop (at .0) (now (image .entry))) ⌝ }
+{
+    let start = at.0 as usize;
+    let mut words = [0u32; 8];
+    for i in 0..8usize {
+        words[i] = image[start + i];
+    }
+    words
+}
+
+fn no_seeds() -> Seeds
+    ensures { λ r. ⌜ r ≡ noSeeds ⌝ }
+{
+    Seeds {
+        given: false,
+        creator: [0u32; 8],
+        owner: [0u32; 8],
+    }
+}
+
+// The creator seed page is 1, the owner seed page 2.
+fn seeds_of(d: u32, image: &[u32]) -> Seeds
+    requires { ⌜ (d ≤ 256) × (length (now image) ≡ imageWords d) ⌝ }
+    ensures { λ r. ⌜ r ≡ seedsOf d (record { words = now (image .entry) }) ⌝ }
+{
+    let creator = seed(image, geometry::first_word(geometry::special_page(d, 1)));
+    let owner = seed(image, geometry::first_word(geometry::special_page(d, 2)));
+    Seeds {
+        given: true,
+        creator,
+        owner,
+    }
+}
+
+// An uninitialised controller becomes ready. The seeds are read only where they are handed out.
+pub fn initialise(c: Controller, image: &[u32]) -> Initialised
+    ensures { λ r. ⌜ r ≡ initialise c (record { words = now (image .entry) }) ⌝ }
+{
+    let answer = initialise_answer(c, image);
+    let ready = state::with_phase(c, Phase::Ready);
+    let next = refusals::settle(c, ready, answer);
+    let controller = next.controller;
+    let inputs = c.inputs;
+    let accepted = refusals::accepts(answer);
+    if accepted & inputs.provision {
+        let seeds = seeds_of(c.pages, image);
+        return Initialised {
+            controller,
+            answer,
+            seeds,
+        };
+    }
+    let seeds = no_seeds();
+    Initialised {
+        controller,
+        answer,
+        seeds,
+    }
+}
+
+// ---- RMA
+
+// Checks 1, 2 and 4.
+fn rma_answer(c: Controller, image: &[u32]) -> Answer
+    ensures { λ r. ⌜ r ≡ rmaAnswer c (record { words = now (image .entry) }) ⌝ }
+{
+    let phase = c.phase;
+    let progress = c.progress;
+    let invalid = refusals::check(!state::valid_with(c, image), Answer::Invalid);
+    let disabled = refusals::check(is_disabled(phase), Answer::Disabled);
+    let busy = refusals::check(state::is_busy(progress), Answer::Busy);
+    refusals::or_else(invalid, refusals::or_else(disabled, busy))
+}
+
+// Both queues are emptied, and the controller is disabled; nothing else of it changes.
+fn rma_controller(c: Controller) -> Controller
+    ensures { λ r. ⌜ r ≡ rmaController c ⌝ }
+{
+    let queues = empty_queues();
+    let emptied = state::with_queues(c, queues);
+    state::with_phase(emptied, Phase::Disabled)
+}
+
+// Ones in the words from `from` up to `to`.
+fn erase_range(image: &mut [u32], from: usize, to: usize)
+    requires { ⌜ (from ≤ to) × (to ≤ length (now image)) ⌝ }
+    ensures { λ _. ⌜ now (image .exit) ≡ sets (now (image .entry)) from (replicate (to - from) allOnes) ⌝ }
+{
+    for i in from..to {
+        image[i] = 0xFFFF_FFFF;
+    }
+}
+
+// The data pages of bank 0, the three special pages behind its first information page, the data pages of bank 1.
+fn wipe(image: &mut [u32], d: u32)
+    requires { ⌜ length (now image) ≡ imageWords d ⌝ }
+    ensures { λ _. ⌜ now (image .exit) ≡ wiped d 0 (now (image .entry)) ⌝ }
+{
+    let pages = d as usize;
+    erase_range(image, 0, pages * 256);
+    erase_range(image, (pages + 1) * 256, (pages + 4) * 256);
+    erase_range(image, (pages + 13) * 256, (2 * pages + 13) * 256);
+}
+
+// Wipes the image where the checks pass.
+pub fn rma(c: Controller, image: &mut [u32]) -> Outcome
+    ensures { λ r. ⌜ record { result = r; flash = record { words = now (image .exit) } } ≡ rma c (record { words = now (image .entry) }) ⌝ }
+{
+    let answer = rma_answer(c, image);
+    if refusals::accepts(answer) {
+        wipe(image, c.pages);
+        let controller = rma_controller(c);
+        return Outcome { controller, answer };
+    }
+    Outcome {
+        controller: c,
+        answer,
+    }
+}

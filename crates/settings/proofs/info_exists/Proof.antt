@@ -1,0 +1,10 @@
+-- `settings::info_exists` meets its contract. Assumes nothing.
+use borrow.Author.Needs.{needs}
+use Rattle.settings.proofs.info_exists.Statement.{statement}
+use Rattle.settings.proofs.info_exists.Tie as tie
+
+pub info-exists-spec : {M : Type 1} → statement M
+info-exists-spec =
+    tie.close (tie.spec
+    (λ c κs. search needs)
+    (λ c. rw (c .info-count .ensures .0)))

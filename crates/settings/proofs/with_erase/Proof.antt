@@ -1,0 +1,10 @@
+-- `settings::with_erase` meets its contract. Assumes nothing.
+use borrow.Author.Needs.{needs}
+use Rattle.settings.proofs.with_erase.Statement.{statement}
+use Rattle.settings.proofs.with_erase.Tie as tie
+
+pub with-erase-spec : {M : Type 1} → statement M
+with-erase-spec =
+    tie.close (tie.spec
+    (λ c κs. search needs)
+    (λ c. rw (c .put-erase .ensures)))

@@ -1,0 +1,10 @@
+-- `settings::with_region` meets its contract. Assumes nothing.
+use borrow.Author.Needs.{needs}
+use Rattle.settings.proofs.with_region.Statement.{statement}
+use Rattle.settings.proofs.with_region.Tie as tie
+
+pub with-region-spec : {M : Type 1} → statement M
+with-region-spec =
+    tie.close (tie.spec
+    (λ c κs. search needs)
+    (λ c. rw (c .put-region .ensures)))
