@@ -1,0 +1,116 @@
+-- Confinement: a protected page keeps every word. Assumes nothing.
+use Prim.Native.Nat.{ℕ, _/_, _<_}
+use mathlib.Core.Path.{_≡_, refl, sym, _∙_}
+use mathlib.Core.Bool.{Bool, true, false, _&&_, _||_, not, and-false, true≢false}
+use mathlib.Core.List.{[], _∷_}
+use mathlib.Core.Logic.{⊎-elim}
+use lib.ListN.{getD}
+use borrow.Author.Tests.{eqb-true}
+use Rattle.model.specs.Kinds.{isProgram, isPageErase, isBankErase, rightNeeded, programRight, eraseRight}
+use Rattle.model.specs.Places.{totalWords, placeOf}
+use Rattle.model.specs.State.{Flash}
+use Rattle.model.specs.Rights.{grants}
+use Rattle.model.specs.Refusals.{accepts}
+use Rattle.model.specs.Checks.{operationAnswer}
+use Rattle.model.specs.Valid.{valid}
+use Rattle.model.specs.Steps.{step}
+use Rattle.model.specs.declared.ImagePage.{ImagePage}
+use Rattle.model.specs.declared.Operation.{Operation}
+use Rattle.model.specs.declared.Work.the-variants.{Program, Erase}
+use Rattle.model.specs.declared.Controller.{Controller}
+use Rattle.model.proofs.Bool.{and-left, and-right, by-test}
+use Rattle.model.proofs.Answers.{accepted-passes}
+use Rattle.model.proofs.Flashes.{other-page}
+use Rattle.model.proofs.Order.{pages-bound}
+use Rattle.model.proofs.Moving.{busy-parts}
+use Rattle.model.proofs.StepLaws.{StepLeaves, same, programs, erases, step-leaves}
+use Rattle.promises.specs.Calls.{Call, State, perform}
+use Rattle.promises.specs.Confined.{bankOfPage, rightsOfPage, protected, wordsOf, isRma, Confined}
+use Rattle.promises.proofs.Validity.{call-keeps}
+use Rattle.promises.proofs.FlashLaws.{flash-touched}
+use Rattle.promises.proofs.PageLaws.{place-granted, place-permitted}
+
+-- ---- a page that may be changed is not protected
+
+module _ (c : Controller) (q : ImagePage) where
+  -- Neither where its bank may be erased,
+  bank-open : getD (c .settings .erase) (bankOfPage (c .pages) q) false ≡ true → protected c q ≡ false
+  unfolding protected
+  bank-open h = rw h
+
+  -- nor where it may be programmed,
+  program-open : grants (rightsOfPage c q) programRight ≡ true → protected c q ≡ false
+  unfolding protected
+  program-open h = simp (h, and-false)
+
+  -- nor where it may be erased.
+  erase-open : grants (rightsOfPage c q) eraseRight ≡ true → protected c q ≡ false
+  unfolding protected
+  erase-open h = simp (h, and-false)
+
+-- ---- the right that a program or a page erase needs
+
+-- A program needs the program right,
+program-needs : (o : Operation) → isProgram o ≡ true → (isBankErase o ≡ false) × (rightNeeded o ≡ programRight)
+program-needs o h = let e : o .kind ≡ 1 = eqb-true _ _ h in rw e (refl, refl)
+
+-- and a page erase the erase right.
+page-erase-needs : (o : Operation) → isPageErase o ≡ true → (isBankErase o ≡ false) × (rightNeeded o ≡ eraseRight)
+page-erase-needs o h = let e : o .kind ≡ 2 = eqb-true _ _ h in rw e (refl, refl)
+
+-- ---- the page with the next place of work in progress is not protected
+
+module _ (c : Controller) (o : Operation) (k : ℕ) (q : ImagePage) (h : valid c ≡ true)
+    (some : k < totalWords (c .pages) o) (passed : accepts (operationAnswer c o) ≡ true)
+    (here : placeOf (c .pages) o k .0 / 256 ≡ q .0) where
+  -- A page of a span grants the right that the operation needs,
+  span-grants : isBankErase o ≡ false → grants (rightsOfPage c q) (rightNeeded o) ≡ true
+  span-grants b =
+      let checks = accepted-passes c o passed in
+      rw here at (place-granted c o k (checks .1) b (pages-bound c h .0) (checks .0) some)
+
+  -- so none of a program is protected,
+  program-changes : isProgram o ≡ true → protected c q ≡ false
+  program-changes p = let needs = program-needs o p in program-open c q (rw (needs .1) at (span-grants (needs .0)))
+
+  -- and none of an erase: a bank erase has its bank's permission.
+  erase-changes : (isPageErase o || isBankErase o) ≡ true → protected c q ≡ false
+  erase-changes p =
+      by-test (isPageErase o)
+      (λ t. let needs = page-erase-needs o t in erase-open c q (rw (needs .1) at (span-grants (needs .0))))
+      (λ t. bank-open c q (rw here at (place-permitted c o k (accepted-passes c o passed .1) (rw t at p) some)))
+
+-- ---- one call, and any list of calls
+
+-- A step leaves the words of a protected page as they were,
+step-confined : (c : Controller) (f : Flash) (q : ImagePage) → valid c ≡ true → protected c q ≡ true → StepLeaves c f
+    → wordsOf (step c f .flash) q ≡ wordsOf f q
+step-confined c f q h guard (same e) = rw e
+step-confined c f q h guard (programs o k r e) =
+    let w = busy-parts c (Program o k) h r in
+    rw e (other-page (f .words) (placeOf (c .pages) o k .0) _ (q .0)
+    (λ x. true≢false (sym guard ∙ program-changes c o k q h (w .left) (w .asked) x (w .kind))))
+step-confined c f q h guard (erases o k r e) =
+    let w = busy-parts c (Erase o k) h r in
+    rw e (other-page (f .words) (placeOf (c .pages) o k .0) _ (q .0)
+    (λ x. true≢false (sym guard ∙ erase-changes c o k q h (w .left) (w .asked) x (w .kind))))
+
+-- and so does every call but RMA.
+call-confined : (s : State) (k : Call) (q : ImagePage) → valid (s .controller) ≡ true
+    → (protected (s .controller) q && not (isRma k)) ≡ true → wordsOf (perform s k .state .flash) q ≡ wordsOf (s .flash) q
+unfolding perform
+call-confined s k q h guard =
+    let safe = and-left (protected (s .controller) q) _ guard in
+    ⊎-elim (λ e. rw e)
+    (⊎-elim
+    (λ e. rw e (step-confined (s .controller) (s .flash) q h safe (step-leaves _ _)))
+    (λ e. absurd (true≢false (sym (rw e at (and-right (protected (s .controller) q) (not (isRma k)) guard))))))
+    (flash-touched s k)
+
+-- Call by call.
+pub confined : Confined
+confined s [] q shaped h guard = refl
+confined s (k ∷ ks) q shaped h guard =
+    let now : Bool = protected (s .controller) q && not (isRma k) in
+    let kept = call-keeps s k shaped h in
+    confined (perform s k .state) ks q (kept .0) (kept .1) (and-right now _ guard) ∙ call-confined s k q h (and-left now _ guard)

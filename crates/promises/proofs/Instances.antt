@@ -1,0 +1,81 @@
+-- The premises of the promises can be met: states that calls reach from reset with D = 10, settled by computation.
+use mathlib.Core.Path.{_≡_, refl}
+use mathlib.Core.Bool.{true}
+use mathlib.Core.List.{List, [], _∷_, _++_}
+use lib.ListN.{getD, replicate}
+use Rattle.model.specs.Geometry.{imagePage, wordAt}
+use Rattle.model.specs.Words.{allOnes, programmed}
+use Rattle.model.specs.Places.{totalWords, placeOf}
+use Rattle.model.specs.Queue.{held, queueOf, pushed, oldest, popped}
+use Rattle.model.specs.State.{freshController}
+use Rattle.model.specs.Rights.{dataRights, rightsAt, leading, allowedWords, denied, readableWords}
+use Rattle.model.specs.Checks.{malformed, outOfRange, crossesWindow, operationAnswer}
+use Rattle.model.specs.Valid.{settingsFit, workFits, runningFits, valid, validWith}
+use Rattle.model.specs.Errors.{recorded}
+use Rattle.model.specs.Settings.{setRegion}
+use Rattle.model.specs.Lifecycle.{initialiseAnswer, initialise}
+use Rattle.model.specs.Steps.{startAnswer, start, pushAnswer, push, stalls, advance, stepProgress, step}
+use Rattle.model.specs.Bench.{region, op}
+use Rattle.model.specs.declared.Operation.{Operation}
+use Rattle.model.specs.declared.Work.the-variants.{Read}
+use Rattle.model.specs.declared.Progress.the-variants.{Running}
+use Rattle.promises.specs.Calls.{Call, State, Shaped, SetRegion, Initialise, Start, Step, Push, perform, run}
+use Rattle.promises.specs.Confined.{rightsOfPage, protected, protectedAlong, bitOf}
+use Rattle.promises.specs.Counted.{wordsLeft}
+use Rattle.promises.specs.Unknown.{stateOf}
+
+-- After reset; the image's first word is 0, the others are ones.
+abbrev fresh : State
+fresh = stateOf (freshController 10) (record { words = 0 ∷ replicate 11775 allOnes })
+
+-- All rights on page 0 alone, initialised, and an operation started.
+abbrev calls : Operation → List Call
+calls o = SetRegion 0 (region true 0 1 7) ∷ Initialise ∷ Start o ∷ []
+
+abbrev reached : Operation → State
+reached o = run fresh (calls o)
+
+-- An erase of page 0, a program of its word 1, and a read of page 1.
+abbrev erase : Operation
+erase = op 2 0 0 0 0
+
+abbrev program : Operation
+program = op 1 0 0 4 1
+
+abbrev read : Operation
+read = op 0 0 0 1024 1
+
+-- What each promise asks for, met.
+pub record Met : Type 0 where
+  -- every promise: the state that the calls begin with is valid
+  pub shaped : Shaped (fresh .controller)
+  pub ours : valid (fresh .controller) ≡ true
+  -- `Confined`: page 1 is protected along calls that erase a word of page 0
+  pub guarded : protectedAlong (record { 0 = 1 }) fresh (calls erase ++ (Step ∷ [])) ≡ true
+  -- `ExactlyItsWords`: the erase has 256 words left, and the image fits
+  pub left : wordsLeft (reached erase .controller) ≡ 256
+  pub fits : validWith (reached erase .controller) (reached erase .flash) ≡ true
+  -- `RisesByErase`: its first step makes a 0 bit 1
+  pub low : bitOf (reached erase .flash) 0 0 ≡ 0
+  pub high : bitOf (run fresh (calls erase ++ (Step ∷ [])) .flash) 0 0 ≡ 1
+  -- `RefusedMovesNothing`, `RefusedUnknown`: a second start is refused
+  pub refused : perform (reached erase) (Start read) .reply .answer ≡ 4
+  -- a pushed word is the one that a step programs
+  pub stores : getD (run (reached program) (Push 5 ∷ Step ∷ []) .flash .words) 1 0 ≡ 5
+  -- `BlankUnknown`: the read of page 1 is in progress, blank
+  pub blank : reached read .controller .progress ≡ Running (Read read 0 0)
+
+pub met : Met
+unfolding imagePage wordAt programmed totalWords placeOf held queueOf pushed oldest popped leading dataRights rightsAt allowedWords denied readableWords malformed outOfRange crossesWindow operationAnswer settingsFit workFits runningFits valid validWith recorded setRegion initialiseAnswer initialise startAnswer start pushAnswer push stalls advance stepProgress step perform rightsOfPage protected
+met = record {
+  shaped = record { regions = refl; info = refl; erase = refl; reads = refl; programs = refl };
+  ours = refl;
+  guarded = refl;
+  left = refl;
+  fits = refl;
+  low = refl;
+  high = refl;
+  refused = refl;
+  stores = refl;
+  blank = refl;
+}

@@ -1,0 +1,147 @@
+-- Every call with its inputs, and what it leaves: each call gets controller and flash as the one before left them.
+use Prim.Native.Nat.{ℕ}
+use mathlib.Core.Path.{_≡_}
+use mathlib.Core.Bool.{Bool}
+use mathlib.Core.List.{List, [], _∷_}
+use lib.ListN.{length}
+use Rattle.model.specs.State.{Flash, Leaves}
+pub use Rattle.model.specs.State.{State}
+use Rattle.model.specs.Refusals.{numberOf}
+use Rattle.model.specs.Errors.{clear}
+use Rattle.model.specs.Settings.{setInputs, setRegion, setDefault, setInfo, setErase}
+use Rattle.model.specs.Lifecycle.{reset, initialise, rma, noSeeds}
+use Rattle.model.specs.Steps.{start, push, pop, step}
+use Rattle.model.specs.Host.{View, hostRead, view}
+use Rattle.model.specs.declared.Page.{Page}
+use Rattle.model.specs.declared.ByteAddress.{ByteAddress}
+use Rattle.model.specs.declared.Inputs.{Inputs}
+use Rattle.model.specs.declared.Region.{Region}
+use Rattle.model.specs.declared.PageSetting.{PageSetting}
+use Rattle.model.specs.declared.Operation.{Operation}
+use Rattle.model.specs.declared.Controller.{Controller}
+use Rattle.model.specs.declared.Outcome.{Outcome}
+use Rattle.model.specs.declared.Fetched.{Fetched}
+use Rattle.model.specs.declared.Stepped.{Stepped}
+use Rattle.model.specs.declared.Movement.{Movement}
+use Rattle.model.specs.declared.Movement.the-variants.{None}
+use Rattle.model.specs.declared.Seeds.{Seeds}
+use Rattle.model.specs.declared.Initialised.{Initialised}
+
+-- The calls of 01, 'What may be asked', but for whole operations.
+pub data Call : Type 0 where
+  Reset : ℕ → Call
+  SetInputs : Inputs → Call
+  SetRegion : ℕ → Region → Call
+  SetDefault : ℕ → Call
+  SetInfo : ℕ → ℕ → ℕ → PageSetting → Call
+  SetErase : ℕ → Bool → Call
+  Initialise : Call
+  Start : Operation → Call
+  Step : Call
+  Push : ℕ → Call
+  Pop : Call
+  HostRead : ByteAddress → Call
+  ViewPage : Page → Call
+  Clear : Call
+  Rma : Call
+
+-- What a caller is told: the answer's number, and what comes with it (nothing, 0 or empty where a call has no such thing).
+pub record Reply : Type 0 where
+  pub answer : ℕ
+  pub movement : Movement
+  pub bits : ℕ
+  pub word : ℕ
+  pub seeds : Seeds
+  pub view : View
+
+pub record Performed : Type 0 where
+  pub state : State
+  pub reply : Reply
+
+abbrev pub noView : View
+noView = record { number = 0; start = record { 0 = 0 }; words = [] }
+
+abbrev pub told : ℕ → Reply
+told n = record { answer = n; movement = None; bits = 0; word = 0; seeds = noSeeds; view = noView }
+
+abbrev pub byOutcome : Flash → Outcome → Performed
+byOutcome f r = record { state = record { controller = r .controller; flash = f }; reply = told (numberOf (r .answer)) }
+
+abbrev pub byFetch : Flash → Fetched → Performed
+byFetch f r = record {
+  state = record { controller = r .controller; flash = f };
+  reply = record {
+    answer = numberOf (r .answer);
+    movement = None;
+    bits = 0;
+    word = r .word;
+    seeds = noSeeds;
+    view = noView;
+  };
+}
+
+abbrev pub byStep : Leaves Stepped → Performed
+byStep l = record {
+  state = record { controller = l .result .controller; flash = l .flash };
+  reply = record {
+    answer = numberOf (l .result .answer);
+    movement = l .result .movement;
+    bits = l .result .bits;
+    word = 0;
+    seeds = noSeeds;
+    view = noView;
+  };
+}
+
+abbrev pub byInitialise : Flash → Initialised → Performed
+byInitialise f r = record {
+  state = record { controller = r .controller; flash = f };
+  reply = record {
+    answer = numberOf (r .answer);
+    movement = None;
+    bits = 0;
+    word = 0;
+    seeds = r .seeds;
+    view = noView;
+  };
+}
+
+abbrev pub byView : State → View → Performed
+byView s v = record {
+  state = s;
+  reply = record { answer = v .number; movement = None; bits = 0; word = 0; seeds = noSeeds; view = v };
+}
+
+unfoldable pub perform : State → Call → Performed
+perform s (Reset d) = byOutcome (s .flash) (reset (s .controller) d)
+perform s (SetInputs i) = byOutcome (s .flash) (setInputs (s .controller) i)
+perform s (SetRegion n g) = byOutcome (s .flash) (setRegion (s .controller) n g)
+perform s (SetDefault r) = byOutcome (s .flash) (setDefault (s .controller) r)
+perform s (SetInfo bank t page p) = byOutcome (s .flash) (setInfo (s .controller) bank t page p)
+perform s (SetErase bank on) = byOutcome (s .flash) (setErase (s .controller) bank on)
+perform s Initialise = byInitialise (s .flash) (initialise (s .controller) (s .flash))
+perform s (Start o) = byOutcome (s .flash) (start (s .controller) o)
+perform s Step = byStep (step (s .controller) (s .flash))
+perform s (Push w) = byOutcome (s .flash) (push (s .controller) w)
+perform s Pop = byFetch (s .flash) (pop (s .controller))
+perform s (HostRead a) = byFetch (s .flash) (hostRead (s .controller) (s .flash) a)
+perform s (ViewPage p) = byView s (view (s .controller) (s .flash) p)
+perform s Clear = byOutcome (s .flash) (clear (s .controller))
+perform s Rma = byOutcome (rma (s .controller) (s .flash) .flash) (rma (s .controller) (s .flash) .result)
+
+-- A list of calls, one after the other: the state at the end, and what each call told.
+abbrev pub run : State → List Call → State
+run s [] = s
+run s (k ∷ ks) = run (perform s k .state) ks
+
+abbrev pub replies : State → List Call → List Reply
+replies s [] = []
+replies s (k ∷ ks) = perform s k .reply ∷ replies (perform s k .state) ks
+
+-- A controller's arrays are as long as their types say: every controller that a program can hold is so.
+pub record Shaped (c : Controller) : Type 0 where
+  pub regions : length (c .settings .regions) ≡ 8
+  pub info : length (c .settings .info) ≡ 26
+  pub erase : length (c .settings .erase) ≡ 2
+  pub reads : length (c .queues .reads .words) ≡ 16
+  pub programs : length (c .queues .programs .words) ≡ 16

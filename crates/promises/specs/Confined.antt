@@ -1,0 +1,110 @@
+-- Confinement: a page that may be neither programmed nor erased keeps every word, and a 0 bit becomes 1 only by an erase
+-- or RMA that covers it.
+use Prim.Native.Nat.{ℕ, _-_, _*_, _+_, _/_, _%_, _^_}
+use mathlib.Core.Path.{_≡_}
+use mathlib.Core.Bool.{Bool, true, false, _&&_, not, cond}
+use mathlib.Core.List.{List, [], _∷_}
+use lib.Dec.{eqb}
+use lib.ListN.{getD}
+use Rattle.model.specs.Geometry.{bankPages}
+use Rattle.model.specs.Kinds.{programRight, eraseRight}
+use Rattle.model.specs.Places.{placeOf}
+use Rattle.model.specs.State.{Flash}
+pub use Rattle.model.specs.State.{wordsOf}
+use Rattle.model.specs.Rights.{grants, dataRights, infoRights}
+use Rattle.model.specs.Lifecycle.{isData, isWiped}
+use Rattle.model.specs.Valid.{valid}
+use Rattle.model.specs.declared.ImagePage.{ImagePage}
+use Rattle.model.specs.declared.Work.the-variants.{Read, Program, Erase}
+use Rattle.model.specs.declared.Progress.{Progress}
+use Rattle.model.specs.declared.Progress.the-variants.{Idle, Running}
+use Rattle.model.specs.declared.Controller.{Controller}
+use Rattle.promises.specs.Calls.{Call, State, Shaped, Reset, SetInputs, SetRegion, SetDefault, SetInfo, SetErase, Initialise, Start, Step, Push, Pop, HostRead, ViewPage, Clear, Rma, perform, run}
+
+-- ---- a page of the image: its bank and its rights
+
+abbrev pub bankOfPage : ℕ → ImagePage → ℕ
+bankOfPage d q = q .0 / bankPages d
+
+-- Its number in its bank: the data pages are 0 to D - 1, the 13 information pages follow.
+abbrev pub numberInBank : ℕ → ImagePage → ℕ
+numberInBank d q = q .0 % bankPages d
+
+-- A data page's rights are its region's or the default ones; an information page has none if it is switched off or closed
+-- by its seed rule.
+unfoldable pub rightsOfPage : Controller → ImagePage → ℕ
+rightsOfPage c q =
+    cond (isData (c .pages) q)
+    (dataRights (c .settings .regions) (c .settings .«default_rights»)
+    (record { 0 = bankOfPage (c .pages) q * c .pages + numberInBank (c .pages) q }))
+    (infoRights (c .inputs) (c .settings) (bankOfPage (c .pages) q * 13 + (numberInBank (c .pages) q - c .pages)))
+
+-- Neither the program nor the erase right, in a bank whose erase permission is off.
+unfoldable pub protected : Controller → ImagePage → Bool
+protected c q =
+    not (getD (c .settings .erase) (bankOfPage (c .pages) q) false)
+    && (not (grants (rightsOfPage c q) programRight)
+    && not (grants (rightsOfPage c q) eraseRight))
+
+-- ---- any list of calls but RMA that leaves those settings alone
+
+abbrev pub isRma : Call → Bool
+isRma (Reset d) = false
+isRma (SetInputs i) = false
+isRma (SetRegion n g) = false
+isRma (SetDefault r) = false
+isRma (SetInfo bank t page p) = false
+isRma (SetErase bank on) = false
+isRma Initialise = false
+isRma (Start o) = false
+isRma Step = false
+isRma (Push w) = false
+isRma Pop = false
+isRma (HostRead a) = false
+isRma (ViewPage p) = false
+isRma Clear = false
+isRma Rma = true
+
+-- The page is protected at every call of the list, and none of them is RMA.
+abbrev pub protectedAlong : ImagePage → State → List Call → Bool
+protectedAlong q s [] = true
+protectedAlong q s (k ∷ ks) = (protected (s .controller) q && not (isRma k)) && protectedAlong q (perform s k .state) ks
+
+abbrev pub Confined : Type 0
+Confined =
+    (s : State) (ks : List Call) (q : ImagePage) → Shaped (s .controller) → valid (s .controller) ≡ true
+    → protectedAlong q s ks ≡ true → wordsOf (run s ks .flash) q ≡ wordsOf (s .flash) q
+
+-- ---- a 0 bit becomes 1 only by an erase or RMA that covers it
+
+abbrev pub bitOf : Flash → ℕ → ℕ → ℕ
+bitOf f place bit = getD (f .words) place 0 / 2 ^ bit % 2
+
+-- The next step of what is in progress erases the place.
+abbrev pub stepErases : ℕ → Progress → ℕ → Bool
+stepErases d Idle place = false
+stepErases d (Running (Read o k readable)) place = false
+stepErases d (Running (Program o k)) place = false
+stepErases d (Running (Erase o k)) place = eqb (placeOf d o k .0) place
+
+abbrev pub erasesPlace : Controller → Call → ℕ → Bool
+erasesPlace c (Reset d) place = false
+erasesPlace c (SetInputs i) place = false
+erasesPlace c (SetRegion n g) place = false
+erasesPlace c (SetDefault r) place = false
+erasesPlace c (SetInfo bank t page p) place = false
+erasesPlace c (SetErase bank on) place = false
+erasesPlace c Initialise place = false
+erasesPlace c (Start o) place = false
+erasesPlace c Step place = stepErases (c .pages) (c .progress) place
+erasesPlace c (Push w) place = false
+erasesPlace c Pop place = false
+erasesPlace c (HostRead a) place = false
+erasesPlace c (ViewPage p) place = false
+erasesPlace c Clear place = false
+erasesPlace c Rma place = isWiped (c .pages) (record { 0 = place })
+
+abbrev pub RisesByErase : Type 0
+RisesByErase =
+    (s : State) (k : Call) (place bit : ℕ) → bitOf (s .flash) place bit ≡ 0 → bitOf (perform s k .state .flash) place bit ≡ 1
+    → erasesPlace (s .controller) k place ≡ true

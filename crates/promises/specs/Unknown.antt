@@ -1,0 +1,30 @@
+-- Denied words stay unknown: what a refused call and a blank read tell and leave does not depend on the flash's words, so
+-- not on those of the pages denied to them.
+use Prim.Native.Nat.{ℕ}
+use mathlib.Core.Path.{_≡_}
+use lib.ListN.{length}
+use Rattle.model.specs.State.{Flash}
+use Rattle.model.specs.declared.Operation.{Operation}
+use Rattle.model.specs.declared.Work.the-variants.{Read}
+use Rattle.model.specs.declared.Progress.the-variants.{Running}
+use Rattle.model.specs.declared.Controller.{Controller}
+use Rattle.promises.specs.Calls.{Call, State, Step, perform}
+
+abbrev pub stateOf : Controller → Flash → State
+stateOf c f = record { controller = c; flash = f }
+
+-- A call tells the same and leaves the same controller on both images.
+pub record Alike (c : Controller) (f g : Flash) (k : Call) : Type 0 where
+  pub reply : perform (stateOf c f) k .reply ≡ perform (stateOf c g) k .reply
+  pub controller : perform (stateOf c f) k .state .controller ≡ perform (stateOf c g) k .state .controller
+
+abbrev pub RefusedUnknown : Type 0
+RefusedUnknown =
+    (c : Controller) (f g : Flash) (k : Call) → length (f .words) ≡ length (g .words)
+    → (perform (stateOf c f) k .reply .answer ≡ 0 → ⊥) → Alike c f g k
+
+-- A blank read has no readable word, and none of its steps tells one.
+abbrev pub BlankUnknown : Type 0
+BlankUnknown =
+    (c : Controller) (f g : Flash) (o : Operation) (moved : ℕ) → length (f .words) ≡ length (g .words)
+    → c .progress ≡ Running (Read o moved 0) → Alike c f g Step
