@@ -1,0 +1,121 @@
+-- What the first words of an operation do, one more at the end; all of them do what the plan's places do.
+-- Assumes nothing.
+use Prim.Native.Nat.{ℕ, zero, suc, _+_, _<_, _≤_}
+use native.Mathlib.Nat.{add-zero, zero-add, add-assoc}
+use native.Mathlib.Numerals.{add-one}
+use native.Mathlib.Omega.{arith}
+use mathlib.Core.Path.{_≡_, refl, sym, ap, _∙_}
+use mathlib.Core.Bool.{cond}
+use mathlib.Core.List.{List, [], _∷_, _++_, append-nil}
+use lib.Dec.{ltb}
+use lib.ListN.{length, drop, set, replicate, length-append, length-set, replicate-append-replicate}
+use lib.Seq.{drop-cons, set-at, append-snoc}
+use borrow.Author.Tests.{lt-ltb, le-ltb}
+use Rattle.model.specs.Words.{allOnes}
+use Rattle.model.specs.Places.{placeOf}
+use Rattle.model.specs.State.{Flash, stored, withWord}
+use Rattle.model.specs.Steps.{delivered, countedBits}
+use Rattle.model.specs.declared.Operation.{Operation}
+use Rattle.model.specs.declared.Controller.{Controller}
+use Rattle.plans.specs.Plan.{placesFrom, deliveredAt, stored-all, changed-all}
+
+-- There are as many places as words.
+pub places-length : (d : ℕ) (o : Operation) (k n : ℕ) → length (placesFrom d o k n) ≡ n
+places-length d o k zero = refl
+places-length d o k (suc n) = ap suc (places-length d o (k + 1) n)
+
+-- ---- reads
+
+-- Word k of a read with so many readable words.
+abbrev pub readWord : Flash → ℕ → Operation → ℕ → ℕ → ℕ
+readWord f d o readable k = cond (ltb k readable) (delivered f (placeOf d o k)) allOnes
+
+-- The first words of a read, in order.
+unfoldable pub readFirst : Flash → ℕ → Operation → ℕ → ℕ → List ℕ
+readFirst f d o readable zero = []
+readFirst f d o readable (suc k) = readFirst f d o readable k ++ (readWord f d o readable k ∷ [])
+
+module _ (f : Flash) (d : ℕ) (o : Operation) (readable : ℕ) where
+  -- They are k words.
+  pub read-length : (k : ℕ) → length (readFirst f d o readable k) ≡ k
+  unfolding readFirst
+  read-length zero = refl
+  read-length (suc k) = rw length-append (ap (λ (n : ℕ). n + 1) (read-length k) ∙ add-one k)
+
+  -- With all of them readable they and the words delivered at the later places are the later first words:
+  read-from : (n k : ℕ) → k + n ≤ readable
+      → readFirst f d o readable k ++ deliveredAt f (placesFrom d o k n) ≡ readFirst f d o readable (k + n)
+  unfolding readFirst
+  read-from zero k h = rw (add-zero, append-nil)
+  read-from (suc n) k h =
+      let one : readFirst f d o readable (k + 1) ≡ readFirst f d o readable k ++ (delivered f (placeOf d o k) ∷ []) =
+      rw (add-one, lt-ltb k readable (omega arith)) in
+      let next : k + suc n ≡ k + 1 + n = omega arith in
+      rw (next, ← read-from n (k + 1) (omega arith), one, append-snoc)
+
+  -- all of them are the words delivered at the places.
+  pub read-all : (n : ℕ) → n ≤ readable → readFirst f d o readable n ≡ deliveredAt f (placesFrom d o 0 n)
+  unfolding readFirst
+  read-all n h = sym (read-from n 0 (rw zero-add h) ∙ rw zero-add)
+
+  -- In a buffer that starts with them, the next word is set.
+  pub read-next : (b : List ℕ) (k : ℕ) → k < length b
+      → set (readFirst f d o readable k ++ drop k b) k (readWord f d o readable k) ≡ readFirst f d o readable (suc k) ++ drop (suc k) b
+  unfolding readFirst
+  read-next b k h = rw (drop-cons b k 0, set-at (readFirst f d o readable k) _ _ _ k (read-length k), append-snoc)
+
+-- With none of them readable they are ones.
+pub read-blank : (f : Flash) (d : ℕ) (o : Operation) (n : ℕ) → readFirst f d o 0 n ≡ replicate n allOnes
+unfolding readFirst
+read-blank f d o zero = refl
+read-blank f d o (suc n) =
+    rw (read-blank f d o n, le-ltb n 0 (omega arith)) (replicate-append-replicate n 1 allOnes ∙ ap (λ (m : ℕ). replicate m allOnes) (add-one n))
+
+-- ---- programs and erases
+
+-- The flash after the first words, where word k becomes `new k old`.
+unfoldable pub storedFirst : ℕ → Operation → (ℕ → ℕ → ℕ) → ℕ → Flash → Flash
+storedFirst d o new zero f = f
+storedFirst d o new (suc k) f =
+    withWord (storedFirst d o new k f) (placeOf d o k) (new k (stored (storedFirst d o new k f) (placeOf d o k)))
+
+-- The bits that count as changed by them.
+unfoldable pub changedFirst : Controller → Operation → (ℕ → ℕ → ℕ) → ℕ → Flash → ℕ
+changedFirst c o new zero f = 0
+changedFirst c o new (suc k) f =
+    changedFirst c o new k f
+    + countedBits c (placeOf (c .pages) o k) (stored (storedFirst (c .pages) o new k f) (placeOf (c .pages) o k))
+    (new k (stored (storedFirst (c .pages) o new k f) (placeOf (c .pages) o k)))
+
+module _ (o : Operation) (new : ℕ → ℕ → ℕ) (f : Flash) where
+  -- The image keeps its length.
+  pub stored-length : (d k : ℕ) → length (storedFirst d o new k f .words) ≡ length (f .words)
+  unfolding storedFirst
+  stored-length d zero = refl
+  stored-length d (suc k) = rw length-set (stored-length d k)
+
+  -- The places from word k on store what the later words do.
+  stored-from : (d n k : ℕ) → stored-all new k (placesFrom d o k n) (storedFirst d o new k f) ≡ storedFirst d o new (k + n) f
+  unfolding storedFirst
+  stored-from d zero k = rw add-zero
+  stored-from d (suc n) k =
+      let next : k + suc n ≡ suc k + n = omega arith in simp (next, add-one) (stored-from d n (suc k))
+
+  -- All of them store what the plan's places do,
+  pub stored-firsts : (d n : ℕ) → storedFirst d o new n f ≡ stored-all new 0 (placesFrom d o 0 n) f
+  unfolding storedFirst
+  stored-firsts d n = sym (stored-from d n 0 ∙ rw zero-add)
+
+  -- The places from word k on change as many bits as the later words do.
+  changed-from : (c : Controller) (n k : ℕ)
+      → changedFirst c o new k f + changed-all c new k (placesFrom (c .pages) o k n) (storedFirst (c .pages) o new k f)
+      ≡ changedFirst c o new (k + n) f
+  unfolding storedFirst changedFirst
+  changed-from c zero k = simp add-zero
+  changed-from c (suc n) k =
+      let next : k + suc n ≡ suc k + n = omega arith in rw (next, add-one, ← add-assoc) (changed-from c n (suc k))
+
+  -- and change as many bits.
+  pub changed-firsts : (c : Controller) (n : ℕ) → changedFirst c o new n f ≡ changed-all c new 0 (placesFrom (c .pages) o 0 n) f
+  unfolding storedFirst changedFirst
+  changed-firsts c n = sym (sym (zero-add _) ∙ changed-from c n 0 ∙ rw zero-add)

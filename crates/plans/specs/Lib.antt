@@ -1,0 +1,4 @@
+-- Whole operations in closed form.
+
+pub mod Plan
+pub mod Driver

@@ -1,0 +1,111 @@
+-- What a whole operation does: a plan, which checks and lengths decide, and the performance of the plan at its places.
+-- Neither mentions a step or a queue's words.
+use Prim.Native.Nat.{ℕ, zero, suc, _+_}
+use mathlib.Core.Path.{_≡_}
+use mathlib.Core.Bool.{_&&_, cond}
+use mathlib.Core.List.{List, [], _∷_, _++_}
+use lib.ListN.{length, getD, drop, replicate}
+use Rattle.model.specs.Words.{allOnes, programmed}
+use Rattle.model.specs.Kinds.{isRead, isProgram}
+use Rattle.model.specs.Places.{totalWords, placeOf}
+use Rattle.model.specs.Queue.{emptyQueue}
+use Rattle.model.specs.State.{Flash, stored, withWord, withErrors, withQueues, withReads, withPrograms}
+use Rattle.model.specs.Refusals.{accepts, isDenied}
+use Rattle.model.specs.Checks.{operationAnswer}
+use Rattle.model.specs.Errors.{recorded}
+use Rattle.model.specs.Steps.{delivered, countedBits}
+use Rattle.model.specs.Whole.{WholeLeaves, wholeAnswer, shortBuffer, whole}
+use Rattle.model.specs.declared.BusWord.{BusWord}
+use Rattle.model.specs.declared.Operation.{Operation}
+use Rattle.model.specs.declared.Controller.{Controller}
+use Rattle.model.specs.declared.Answer.{Answer}
+use Rattle.model.specs.declared.Answer.the-variants.{Accepted, ShortBuffer, Denied}
+
+-- ---- the plan
+
+-- `Refused` changes nothing, `Recorded` the error record alone. A `Blank` read delivers n words of ones, and is recorded.
+-- The others start: they read, program or erase these places, in this order.
+pub data Plan : Type 0 where
+  Refused : Answer → Plan
+  Recorded : Answer → Plan
+  Blank : ℕ → Plan
+  Reads : List BusWord → Plan
+  Programs : List BusWord → Plan
+  Erases : List BusWord → Plan
+
+-- The places of words k to k + n - 1.
+abbrev pub placesFrom : ℕ → Operation → ℕ → ℕ → List BusWord
+placesFrom d o k zero = []
+placesFrom d o k (suc n) = placeOf d o k ∷ placesFrom d o (k + 1) n
+
+unfoldable pub placesOf : ℕ → Operation → List BusWord
+placesOf d o = placesFrom d o 0 (totalWords d o)
+
+abbrev pub planStarted : ℕ → Operation → Plan
+planStarted d o =
+    cond (isRead o) (Reads (placesOf d o)) (cond (isProgram o) (Programs (placesOf d o)) (Erases (placesOf d o)))
+
+-- By the answer of checks 5, 7, 8 and 9.
+abbrev pub planAnswered : ℕ → Operation → Answer → Plan
+planAnswered d o a =
+    cond (accepts a) (planStarted d o) (cond (isRead o && isDenied a) (Blank (o .count)) (Recorded a))
+
+-- Checks 1 to 4, then 6 of a well-formed operation, then the others.
+unfoldable pub planOf : Controller → Flash → Operation → List ℕ → Plan
+planOf c f o b =
+    cond (accepts (wholeAnswer c f))
+    (cond (shortBuffer o b) (Refused ShortBuffer) (planAnswered (c .pages) o (operationAnswer c o)))
+    (Refused (wholeAnswer c f))
+
+-- ---- its performance
+
+-- The words that a read delivers at its places.
+abbrev pub deliveredAt : Flash → List BusWord → List ℕ
+deliveredAt f [] = []
+deliveredAt f (p ∷ ps) = delivered f p ∷ deliveredAt f ps
+
+-- Word k, at the next place, becomes `new k old`: the flash after all of them, and the bits that count as changed.
+abbrev pub stored-all : (ℕ → ℕ → ℕ) → ℕ → List BusWord → Flash → Flash
+stored-all new k [] f = f
+stored-all new k (p ∷ ps) f = stored-all new (k + 1) ps (withWord f p (new k (stored f p)))
+
+abbrev pub changed-all : Controller → (ℕ → ℕ → ℕ) → ℕ → List BusWord → Flash → ℕ
+changed-all c new k [] f = 0
+changed-all c new k (p ∷ ps) f =
+    countedBits c p (stored f p) (new k (stored f p))
+    + changed-all c new (k + 1) ps (withWord f p (new k (stored f p)))
+
+-- A program combines word k of the buffer with the stored one; an erase leaves ones.
+abbrev pub programming : List ℕ → ℕ → ℕ → ℕ
+programming b k old = programmed old (getD b k 0)
+
+abbrev pub erasing : ℕ → ℕ → ℕ
+erasing k old = allOnes
+
+-- The queue that words went through is left empty, with zeros in its places.
+abbrev pub readsDrained : Controller → Controller
+readsDrained c = withQueues c (withReads (c .queues) emptyQueue)
+
+abbrev pub programsDrained : Controller → Controller
+programsDrained c = withQueues c (withPrograms (c .queues) emptyQueue)
+
+abbrev pub leaving : Controller → Answer → ℕ → Flash → List ℕ → WholeLeaves
+leaving c a bits f b = record { result = record { controller = c; answer = a; bits = bits }; flash = f; buffer = b }
+
+abbrev pub withRecorded : Controller → Answer → Operation → Controller
+withRecorded c a o = withErrors c (recorded a (o .address) (c .errors))
+
+unfoldable pub performed : Controller → Flash → Operation → List ℕ → Plan → WholeLeaves
+performed c f o b (Refused a) = leaving c a 0 f b
+performed c f o b (Recorded a) = leaving (withRecorded c a o) a 0 f b
+performed c f o b (Blank n) = leaving (readsDrained (withRecorded c Denied o)) Denied 0 f (replicate n allOnes ++ drop n b)
+performed c f o b (Reads ps) = leaving (readsDrained c) Accepted 0 f (deliveredAt f ps ++ drop (length ps) b)
+performed c f o b (Programs ps) =
+    leaving (programsDrained c) Accepted (changed-all c (programming b) 0 ps f) (stored-all (programming b) 0 ps f) b
+performed c f o b (Erases ps) =
+    leaving c Accepted (changed-all c erasing 0 ps f) (stored-all erasing 0 ps f) b
+
+-- ---- the law: a whole operation, by its calls, leaves what its plan does
+
+abbrev pub ClosedForm : Type 0
+ClosedForm = (c : Controller) (f : Flash) (o : Operation) (b : List ℕ) → whole c f o b ≡ performed c f o b (planOf c f o b)

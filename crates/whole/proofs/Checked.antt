@@ -1,0 +1,74 @@
+-- What the checks of a whole operation say of its words: their places, their number, and the room in the buffer. Assumes nothing.
+use Prim.Native.Nat.{ℕ, _<_, _≤_}
+use native.Mathlib.Omega.{arith}
+use mathlib.Core.Path.{_≡_, refl, _∙_}
+use mathlib.Core.Bool.{Bool, true, false, not, or-true}
+use mathlib.Core.Logic.{⊎-elim}
+use mathlib.Core.List.{List}
+use lib.ListN.{length}
+use borrow.Author.Tests.{eqb-true}
+use Rattle.model.specs.Kinds.{isRead, isProgram, isBankErase}
+use Rattle.model.specs.Places.{totalWords, placeOf}
+use Rattle.model.specs.State.{Flash}
+use Rattle.model.specs.Refusals.{accepts, isDenied, check}
+use Rattle.model.specs.Checks.{operationAnswer}
+use Rattle.model.specs.Whole.{wholeAnswer, shortBuffer}
+use Rattle.model.specs.declared.BusWord.{BusWord}
+use Rattle.model.specs.declared.Operation.{Operation}
+use Rattle.model.specs.declared.Controller.{Controller}
+use Rattle.model.specs.declared.Answer.the-variants.{Malformed, Denied}
+use Rattle.model.proofs.Bool.{which}
+use Rattle.model.proofs.Answers.{accepted-passes}
+use Rattle.model.proofs.Order.{pages-bound}
+use Rattle.model.proofs.Places.{place-inside, span-address-fits, bank-words-le}
+use Rattle.model.proofs.Free.{whole-free, whole-length}
+use Rattle.model.proofs.Answers.{answer-named}
+use Rattle.model.proofs.Places.{moving-words}
+use Rattle.plans.proofs.Wholes.{long}
+use Rattle.whole.specs.Placed.{Placed}
+
+-- Check 5 accepts what is not malformed.
+pub formed : (malformed : Bool) → accepts (check malformed Malformed) ≡ not malformed
+formed true = refl
+formed false = refl
+
+-- With checks 1 to 4 passed:
+module _ (c : Controller) (f : Flash) (o : Operation) (free : accepts (wholeAnswer c f) ≡ true) where
+  -- an accepted operation has its places;
+  pub placed : accepts (operationAnswer c o) ≡ true → Placed (c .pages) o f
+  placed ok = record {
+    pages = pages-bound c (whole-free c f free .fits);
+    ranged = accepted-passes c o ok .0;
+    long = whole-length c f free;
+  }
+
+  module _ (b : List ℕ) (room : shortBuffer o b ≡ false) where
+    -- with 6 passed, the buffer of a read and of a program has room for its words,
+    pub read-room : accepts (operationAnswer c o) ≡ true → isRead o ≡ true → totalWords (c .pages) o ≤ length b
+    read-room ok r = long c f o b free room (rw ok) (omega (arith, eqb-true (o .kind) 0 r))
+
+    pub program-room : accepts (operationAnswer c o) ≡ true → isProgram o ≡ true → totalWords (c .pages) o ≤ length b
+    program-room ok p = long c f o b free room (rw ok) (omega (arith, eqb-true (o .kind) 1 p))
+
+    -- and so has that of a denied read.
+    pub blank-room : isDenied (operationAnswer c o) ≡ true → isRead o ≡ true → o .count ≤ length b
+    blank-room d r =
+        let kind : o .kind < 2 = omega (arith, eqb-true (o .kind) 0 r) in
+        rw (moving-words (c .pages) o kind) at (long c f o b free room (rw (d, r, or-true)) kind)
+
+-- An answer of 9 is `Denied`.
+pub told-denied : (c : Controller) (o : Operation) → isDenied (operationAnswer c o) ≡ true → operationAnswer c o ≡ Denied
+told-denied c o d = answer-named c o (rw (d, or-true)) ∙ rw d
+
+-- The words of an operation that has its places:
+module _ {d : ℕ} {o : Operation} {f : Flash} (p : Placed d o f) (k : ℕ) (h : k < totalWords d o) where
+  -- there are fewer than 131,072,
+  pub few-words : k < 131072
+  few-words =
+      ⊎-elim (λ b. omega (arith, bank-words-le d o (p .pages .1) b))
+      (λ b. omega (arith, span-address-fits d o k (p .pages .0) (p .pages .1) (p .ranged) b h))
+      (which (isBankErase o))
+
+  -- and each lies in the image.
+  pub in-image : (at : BusWord) → at ≡ placeOf d o k → at .0 < length (f .words)
+  in-image at e = rw (e, p .long) (place-inside d o (p .pages .0) (p .ranged) k h)

@@ -1,0 +1,12 @@
+-- `whole::programs_drained` meets its contract. Assumes nothing.
+use borrow.Author.Needs.{needs}
+use Rattle.whole.proofs.programs_drained.Statement.{statement}
+use Rattle.whole.proofs.programs_drained.Tie as tie
+
+pub programs-drained-spec : {M : Type 1} → statement M
+programs-drained-spec =
+    tie.close (tie.spec
+    (λ c κs. search needs)
+    (λ c κs. search needs)
+    (λ c κs. search needs)
+    (λ c. simp (c .with-queues .ensures, c .before .with-programs .ensures, c .before .before .empty .ensures)))

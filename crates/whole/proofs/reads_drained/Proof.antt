@@ -1,0 +1,12 @@
+-- `whole::reads_drained` meets its contract. Assumes nothing.
+use borrow.Author.Needs.{needs}
+use Rattle.whole.proofs.reads_drained.Statement.{statement}
+use Rattle.whole.proofs.reads_drained.Tie as tie
+
+pub reads-drained-spec : {M : Type 1} → statement M
+reads-drained-spec =
+    tie.close (tie.spec
+    (λ c κs. search needs)
+    (λ c κs. search needs)
+    (λ c κs. search needs)
+    (λ c. simp (c .with-queues .ensures, c .before .with-reads .ensures, c .before .before .empty .ensures)))

@@ -1,0 +1,17 @@
+-- `whole::whole_answer` meets its contract. Assumes nothing.
+use borrow.Author.Needs.{needs}
+use Rattle.model.specs.Whole.{wholeAnswer}
+use Rattle.whole.proofs.whole_answer.Statement.{statement}
+use Rattle.whole.proofs.whole_answer.Tie as tie
+
+pub whole-answer-spec : {M : Type 1} → statement M
+unfolding wholeAnswer
+whole-answer-spec =
+    tie.close (tie.spec
+    (λ c κs. search needs)
+    (λ c κs. search needs)
+    (λ c κs. search needs)
+    (λ c κs. search needs)
+    (λ c κs. search needs)
+    (λ c κs. search needs)
+    (λ c. rw (c .or-else .ensures, c .before .check .ensures, c .before .before .both-empty .ensures, c .before .before .before .is-busy .ensures, c .before .before .before .before .ready-answer .ensures, c .before .before .before .before .before .valid-with .ensures)))

@@ -1,0 +1,11 @@
+-- `whole::with_recorded` meets its contract. Assumes nothing.
+use borrow.Author.Needs.{needs}
+use Rattle.whole.proofs.with_recorded.Statement.{statement}
+use Rattle.whole.proofs.with_recorded.Tie as tie
+
+pub with-recorded-spec : {M : Type 1} → statement M
+with-recorded-spec =
+    tie.close (tie.spec
+    (λ c κs. search needs)
+    (λ c κs. search needs)
+    (λ c. simp (c .with-errors .ensures, c .before .recorded .ensures)))

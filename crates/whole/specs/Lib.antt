@@ -1,0 +1,3 @@
+-- What a whole operation's leaves ask for.
+
+pub mod Placed
