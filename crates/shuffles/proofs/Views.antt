@@ -1,0 +1,215 @@
+-- What of a state decides the plans: D, the inputs, the settings, and the answer of checks 1 to 4. A whole operation leaves all
+-- of it as it was. Assumes nothing.
+use Prim.Native.Nat.{ℕ}
+use mathlib.Core.Path.{_≡_, refl, sym, ap, _∙_}
+use mathlib.Core.Bool.{true, false, cond}
+use mathlib.Core.List.{List}
+use lib.Dec.{eqb}
+use Rattle.model.specs.Queue.{emptyQueue, queueOf, isEmpty}
+use Rattle.model.specs.Rights.{rightsAt, allowedWords, denied}
+use Rattle.model.specs.State.{Flash, withErrors, withQueues, withReads, withPrograms, noErrors, emptyQueues}
+use Rattle.model.specs.Refusals.{numberOf, accepts}
+use Rattle.model.specs.Checks.{operationAnswer}
+use Rattle.model.specs.Errors.{isRecorded, recorded}
+use Rattle.model.specs.Valid.{errorsFit, bothEmpty, validWith}
+use Rattle.model.specs.Whole.{WholeLeaves, wholeAnswer, shortBuffer}
+use Rattle.model.specs.declared.ByteAddress.{ByteAddress}
+use Rattle.model.specs.declared.Inputs.{Inputs}
+use Rattle.model.specs.declared.Settings.{Settings}
+use Rattle.model.specs.declared.Errors.{Errors}
+use Rattle.model.specs.declared.Queues.{Queues}
+use Rattle.model.specs.declared.Operation.{Operation}
+use Rattle.model.specs.declared.Controller.{Controller}
+use Rattle.model.specs.declared.Phase.the-variants.{Ready}
+use Rattle.model.specs.declared.Progress.the-variants.{Idle}
+use Rattle.model.specs.declared.Answer.{Answer}
+use Rattle.model.specs.declared.Answer.the-variants.{ShortBuffer, Denied}
+use Rattle.model.proofs.Bool.{and-left, and-right, or-left, or-right, by-test}
+use Rattle.model.proofs.Valid.{valid-parts}
+use Rattle.model.proofs.Starting.{recorded-fits}
+use Rattle.model.proofs.Free.{whole-free, free-again}
+use Rattle.plans.specs.Plan.{Plan, Refused, Recorded, Blank, Reads, Programs, Erases, planAnswered, planOf, performed}
+use Rattle.shuffles.specs.Shuffle.{Kinds, kindsIn, union}
+use Rattle.shuffles.proofs.Union.{noKinds, union-none}
+use Rattle.shuffles.proofs.Pages.{AsLong}
+use Rattle.shuffles.proofs.Places.{plan-long}
+
+-- ---- the plan, by what decides it
+
+-- What decides it.
+pub record View : Type 0 where
+  pub pages : ℕ
+  pub inputs : Inputs
+  pub settings : Settings
+  pub answer : Answer
+
+-- Of a controller and a flash.
+unfoldable pub viewOf : Controller → Flash → View
+viewOf c f = record { pages = c .pages; inputs = c .inputs; settings = c .settings; answer = wholeAnswer c f }
+
+-- A controller with this D, inputs and settings.
+abbrev shown : View → Controller
+shown v = record {
+  pages = v .pages;
+  phase = Ready;
+  inputs = v .inputs;
+  settings = v .settings;
+  errors = noErrors;
+  queues = emptyQueues;
+  progress = Idle;
+}
+
+-- The plan by a view,
+unfoldable planBy : View → Operation → List ℕ → Plan
+planBy v o b =
+    cond (accepts (v .answer))
+    (cond (shortBuffer o b) (Refused ShortBuffer) (planAnswered (v .pages) o (operationAnswer (shown v) o)))
+    (Refused (v .answer))
+
+-- which is the plan of whatever has this view.
+plan-by : (c : Controller) (f : Flash) (o : Operation) (b : List ℕ) → planOf c f o b ≡ planBy (viewOf c f) o b
+unfolding planOf planBy viewOf operationAnswer denied allowedWords rightsAt
+plan-by c f o b = refl
+
+-- States with one view have one plan.
+pub same-plan : (c d : Controller) (f g : Flash) (o : Operation) (b : List ℕ) → viewOf c f ≡ viewOf d g
+    → planOf c f o b ≡ planOf d g o b
+same-plan c d f g o b e = plan-by c f o b ∙ ap (λ (v : View). planBy v o b) e ∙ sym (plan-by d g o b)
+
+-- Where checks 1 to 4 refuse, it is their refusal.
+pub refused-plan : (c : Controller) (f : Flash) (o : Operation) (b : List ℕ) → accepts (wholeAnswer c f) ≡ false
+    → planOf c f o b ≡ Refused (wholeAnswer c f)
+unfolding planOf
+refused-plan c f o b h = rw h
+
+-- ---- what a plan leaves of the controller: the queues empty where words went through them, and a kind recorded
+
+-- The queues,
+abbrev pub queuesAfter : Plan → Queues → Queues
+queuesAfter (Refused a) q = q
+queuesAfter (Recorded a) q = q
+queuesAfter (Blank n) q = withReads q emptyQueue
+queuesAfter (Reads ps) q = withReads q emptyQueue
+queuesAfter (Programs ps) q = withPrograms q emptyQueue
+queuesAfter (Erases ps) q = q
+
+-- and the error record.
+abbrev pub errorsAfter : Plan → ByteAddress → Errors → Errors
+errorsAfter (Refused a) at e = e
+errorsAfter (Recorded a) at e = recorded a at e
+errorsAfter (Blank n) at e = recorded Denied at e
+errorsAfter (Reads ps) at e = e
+errorsAfter (Programs ps) at e = e
+errorsAfter (Erases ps) at e = e
+
+-- Nothing else of the controller changes.
+pub plan-controller : (c : Controller) (f : Flash) (o : Operation) (b : List ℕ) (p : Plan)
+    → performed c f o b p .result .controller
+    ≡ withErrors (withQueues c (queuesAfter p (c .queues))) (errorsAfter p (o .address) (c .errors))
+unfolding performed
+plan-controller c f o b (Refused a) = refl
+plan-controller c f o b (Recorded a) = refl
+plan-controller c f o b (Blank n) = refl
+plan-controller c f o b (Reads ps) = refl
+plan-controller c f o b (Programs ps) = refl
+plan-controller c f o b (Erases ps) = refl
+
+-- Empty queues stay empty.
+queues-empty : (p : Plan) (q : Queues) → bothEmpty q ≡ true → bothEmpty (queuesAfter p q) ≡ true
+unfolding queueOf
+queues-empty (Refused a) q h = h
+queues-empty (Recorded a) q h = h
+queues-empty (Blank n) q h = and-right (isEmpty (q .reads)) _ h
+queues-empty (Reads ps) q h = and-right (isEmpty (q .reads)) _ h
+queues-empty (Programs ps) q h = rw (and-left (isEmpty (q .reads)) _ h)
+queues-empty (Erases ps) q h = h
+
+-- A record that fits still does.
+errors-fit : (p : Plan) (at : ByteAddress) (e : Errors) → errorsFit e ≡ true → errorsFit (errorsAfter p at e) ≡ true
+errors-fit (Refused a) at e h = h
+errors-fit (Recorded a) at e h = recorded-fits a at e h
+errors-fit (Blank n) at e h = recorded-fits Denied at e h
+errors-fit (Reads ps) at e h = h
+errors-fit (Programs ps) at e h = h
+errors-fit (Erases ps) at e h = h
+
+-- ---- checks 1 to 4 answer after a plan as they did before it
+
+-- Where they accept,
+still-accepted : (c : Controller) (f g : Flash) (p : Plan) (at : ByteAddress) → AsLong g f → accepts (wholeAnswer c f) ≡ true
+    → wholeAnswer (withErrors (withQueues c (queuesAfter p (c .queues))) (errorsAfter p at (c .errors))) g ≡ wholeAnswer c f
+unfolding wholeAnswer validWith
+still-accepted c f g p at e h =
+    let v = whole-free c f h in
+    let empty = queues-empty p (c .queues) (rw (v .reads) (v .programs)) in
+    let fits = errors-fit p at (c .errors) (valid-parts c (v .fits) .errors) in
+    rw (
+      free-again c (errorsAfter p at (c .errors)) (queuesAfter p (c .queues)) v fits empty,
+      v .fits,
+      e,
+      empty,
+      v .reads,
+      v .programs,
+    )
+
+-- and where they refuse, since nothing changes: a whole operation leaves the view as it was.
+pub view-stays : (c : Controller) (f : Flash) (o : Operation) (b : List ℕ)
+    → viewOf (performed c f o b (planOf c f o b) .result .controller) (performed c f o b (planOf c f o b) .flash) ≡ viewOf c f
+unfolding viewOf performed
+view-stays c f o b = by-test (accepts (wholeAnswer c f)) yes no
+  where
+    leaves : WholeLeaves
+    leaves = performed c f o b (planOf c f o b)
+
+    yes : accepts (wholeAnswer c f) ≡ true → viewOf (leaves .result .controller) (leaves .flash) ≡ viewOf c f
+    yes h =
+        rw (plan-controller c f o b (planOf c f o b))
+        (ap (λ (a : Answer). record { pages = c .pages; inputs = c .inputs; settings = c .settings; answer = a })
+        (still-accepted c f (leaves .flash) (planOf c f o b) (o .address) (plan-long c f o b (planOf c f o b)) h))
+
+    no : accepts (wholeAnswer c f) ≡ false → viewOf (leaves .result .controller) (leaves .flash) ≡ viewOf c f
+    no h = rw (refused-plan c f o b h)
+
+-- ---- the kinds that a plan records
+
+-- The kind of an answer: 5, 7, 8 or 9.
+abbrev kindIs : Answer → Kinds
+kindIs a = record {
+  malformed = eqb (numberOf a) 5;
+  range = eqb (numberOf a) 7;
+  window = eqb (numberOf a) 8;
+  denied = eqb (numberOf a) 9;
+}
+
+-- What a plan adds to the record,
+abbrev pub kindsBy : Plan → Kinds
+kindsBy (Refused a) = noKinds
+kindsBy (Recorded a) = kindIs a
+kindsBy (Blank n) = kindIs Denied
+kindsBy (Reads ps) = noKinds
+kindsBy (Programs ps) = noKinds
+kindsBy (Erases ps) = noKinds
+
+-- An answer's kind joins, if it has one.
+kind-joins : (a : Answer) (at : ByteAddress) (e : Errors) → kindsIn (recorded a at e) ≡ union (kindsIn e) (kindIs a)
+unfolding recorded
+kind-joins a at e = by-test (isRecorded (numberOf a)) (λ t. rw t) other
+  where
+    other : isRecorded (numberOf a) ≡ false → kindsIn (recorded a at e) ≡ union (kindsIn e) (kindIs a)
+    other t =
+        let five : eqb (numberOf a) 5 ≡ false = or-left (eqb (numberOf a) 5) _ t in
+        let t₁ = or-right (eqb (numberOf a) 5) _ t in
+        let seven : eqb (numberOf a) 7 ≡ false = or-left (eqb (numberOf a) 7) _ t₁ in
+        let t₂ = or-right (eqb (numberOf a) 7) _ t₁ in
+        let eight : eqb (numberOf a) 8 ≡ false = or-left (eqb (numberOf a) 8) _ t₂ in
+        let nine : eqb (numberOf a) 9 ≡ false = or-right (eqb (numberOf a) 8) _ t₂ in
+        rw (t, five, seven, eight, nine) (union-none (kindsIn e))
+
+-- is what it adds to the recorded kinds.
+pub kinds-after : (p : Plan) (at : ByteAddress) (e : Errors) → kindsIn (errorsAfter p at e) ≡ union (kindsIn e) (kindsBy p)
+kinds-after (Refused a) at e = union-none (kindsIn e)
+kinds-after (Recorded a) at e = kind-joins a at e
+kinds-after (Blank n) at e = kind-joins Denied at e
+kinds-after (Reads ps) at e = union-none (kindsIn e)
+kinds-after (Programs ps) at e = union-none (kindsIn e)
+kinds-after (Erases ps) at e = union-none (kindsIn e)

@@ -1,0 +1,3 @@
+-- Shuffles of whole operations.
+
+pub mod Shuffle
