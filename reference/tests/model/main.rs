@@ -1,0 +1,15 @@
+//! Tests of the reference model, case by case from document 01.
+
+mod bench_sheet;
+mod helpers;
+mod order_of_checks;
+mod random_runs;
+mod refusal_table;
+mod rma_and_seeds;
+mod settings;
+mod slips;
+mod spans;
+mod states;
+mod steps;
+mod views_and_host;
+mod whole_operations;
