@@ -96,17 +96,17 @@ fn programmed(c: Controller, image: &mut [u32]) -> Controller {
         b"start program",
         operations::start(c, operation(1, 0x38, 2)),
     );
-    let c = line(b"push", operations::push(c, 0x1234_5678));
-    let c = line(b"push", operations::push(c, 0xFFFF_0000));
-    let c = line(b"push", operations::push(c, 0));
+    let c = line(b"push", queueing::push(c, 0x1234_5678));
+    let c = line(b"push", queueing::push(c, 0xFFFF_0000));
+    let c = line(b"push", queueing::push(c, 0));
     let c = stepped(steps::step(c, image));
     let c = stepped(steps::step(c, image));
     let c = line(b"start read", operations::start(c, operation(0, 0x38, 2)));
     let c = stepped(steps::step(c, image));
     let c = stepped(steps::step(c, image));
-    let c = fetched(b"pop", operations::pop(c));
-    let c = fetched(b"pop", operations::pop(c));
-    let c = fetched(b"pop", operations::pop(c));
+    let c = fetched(b"pop", queueing::pop(c));
+    let c = fetched(b"pop", queueing::pop(c));
+    let c = fetched(b"pop", queueing::pop(c));
     fetched(b"host read", host::host_read(c, image, ByteAddress(0x38)))
 }
 
@@ -142,7 +142,7 @@ fn main() {
     let c = made(&image);
     let c = programmed(c, &mut image);
     let c = refused(erased(c, &mut image));
-    let c = line(b"RMA", lifecycle::rma(c, &mut image));
+    let c = line(b"RMA", rma::rma(c, &mut image));
     let c = line(b"start read", operations::start(c, operation(0, 0, 1)));
     line(b"reset with 257 pages", lifecycle::reset(c, 257));
 }

@@ -1,36 +1,27 @@
--- What the checks of a whole operation say of its words: their places, their number, and the room in the buffer. Assumes nothing.
+-- What the checks of a whole operation say of its words: their places, and the room in the buffer. Assumes nothing.
 use Prim.Native.Nat.{ℕ, _<_, _≤_}
 use native.Mathlib.Omega.{arith}
-use mathlib.Core.Path.{_≡_, refl, _∙_}
-use mathlib.Core.Bool.{Bool, true, false, not, or-true}
-use mathlib.Core.Logic.{⊎-elim}
+use mathlib.Core.Path.{_≡_, _∙_}
+use mathlib.Core.Bool.{true, false, or-true}
 use mathlib.Core.List.{List}
 use lib.ListN.{length}
 use borrow.Author.Tests.{eqb-true}
-use Rattle.model.specs.Kinds.{isRead, isProgram, isBankErase}
-use Rattle.model.specs.Places.{totalWords, placeOf}
+use Rattle.model.specs.Kinds.{isRead, isProgram}
+use Rattle.model.specs.Places.{totalWords}
 use Rattle.model.specs.State.{Flash}
-use Rattle.model.specs.Refusals.{accepts, isDenied, check}
+use Rattle.model.specs.Refusals.{accepts, isDenied}
 use Rattle.model.specs.Checks.{operationAnswer}
 use Rattle.model.specs.Whole.{wholeAnswer, shortBuffer}
-use Rattle.model.specs.declared.BusWord.{BusWord}
 use Rattle.model.specs.declared.Operation.{Operation}
 use Rattle.model.specs.declared.Controller.{Controller}
-use Rattle.model.specs.declared.Answer.the-variants.{Malformed, Denied}
-use Rattle.model.proofs.Bool.{which}
+use Rattle.model.specs.declared.Answer.the-variants.{Denied}
 use Rattle.model.proofs.Answers.{accepted-passes}
 use Rattle.model.proofs.Order.{pages-bound}
-use Rattle.model.proofs.Places.{place-inside, span-address-fits, bank-words-le}
 use Rattle.model.proofs.Free.{whole-free, whole-length}
 use Rattle.model.proofs.Answers.{answer-named}
 use Rattle.model.proofs.Places.{moving-words}
 use Rattle.plans.proofs.Wholes.{long}
-use Rattle.whole.specs.Placed.{Placed}
-
--- Check 5 accepts what is not malformed.
-pub formed : (malformed : Bool) → accepts (check malformed Malformed) ≡ not malformed
-formed true = refl
-formed false = refl
+use Rattle.transfers.specs.Placed.{Placed}
 
 -- With checks 1 to 4 passed:
 module _ (c : Controller) (f : Flash) (o : Operation) (free : accepts (wholeAnswer c f) ≡ true) where
@@ -59,16 +50,3 @@ module _ (c : Controller) (f : Flash) (o : Operation) (free : accepts (wholeAnsw
 -- An answer of 9 is `Denied`.
 pub told-denied : (c : Controller) (o : Operation) → isDenied (operationAnswer c o) ≡ true → operationAnswer c o ≡ Denied
 told-denied c o d = answer-named c o (rw (d, or-true)) ∙ rw d
-
--- The words of an operation that has its places:
-module _ {d : ℕ} {o : Operation} {f : Flash} (p : Placed d o f) (k : ℕ) (h : k < totalWords d o) where
-  -- there are fewer than 131,072,
-  pub few-words : k < 131072
-  few-words =
-      ⊎-elim (λ b. omega (arith, bank-words-le d o (p .pages .1) b))
-      (λ b. omega (arith, span-address-fits d o k (p .pages .0) (p .pages .1) (p .ranged) b h))
-      (which (isBankErase o))
-
-  -- and each lies in the image.
-  pub in-image : (at : BusWord) → at ≡ placeOf d o k → at .0 < length (f .words)
-  in-image at e = rw (e, p .long) (place-inside d o (p .pages .0) (p .ranged) k h)

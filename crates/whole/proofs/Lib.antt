@@ -1,5 +1,3 @@
--- Laws of a whole operation's checks, and of the loops over its words.
+-- Laws of a whole operation's checks.
 
 pub mod Checked
-pub mod Reading
-pub mod Storing

@@ -12,7 +12,7 @@ pub crosses-window-spec : {M : Type 1} → statement M
 unfolding crossesWindow
 crosses-window-spec =
     tie.close (tie.spec
-    (λ c κs. search needs)
+    (λ c κs. tt)
     (λ c. search needs)
     (λ c. search needs)
     (λ c. search needs)

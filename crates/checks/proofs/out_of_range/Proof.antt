@@ -1,5 +1,4 @@
 -- `checks::out_of_range` meets its contract. Assumes nothing.
-use borrow.Author.Needs.{needs}
 use Rattle.model.specs.Checks.{outOfRange}
 use Rattle.checks.proofs.out_of_range.Statement.{statement}
 use Rattle.checks.proofs.out_of_range.Tie as tie
@@ -8,9 +7,9 @@ pub out-of-range-spec : {M : Type 1} → statement M
 unfolding outOfRange
 out-of-range-spec =
     tie.close (tie.spec
-    (λ c κs. search needs)
-    (λ c κs. search needs)
-    (λ c κs. search needs)
-    (λ c κs. search needs)
-    (λ c κs. search needs)
+    (λ c κs. tt)
+    (λ c κs. tt)
+    (λ c κs. tt)
+    (λ c κs. tt)
+    (λ c κs. tt)
     (λ c. simp (c .span-address .ensures, c .before .span-words .ensures, c .before .before .span-limit .ensures, c .before .before .before .is-bank-erase .ensures, c .before .before .before .before .past-data .ensures)))

@@ -9,11 +9,11 @@ use Rattle.checks.proofs.span_limit.Tie as tie
 pub span-limit-spec : {M : Type 1} → statement M
 span-limit-spec =
     tie.close (tie.spec
-    (λ c κs. search needs)
-    (λ c κs. search needs)
-    (λ c κs. search needs)
+    (λ c κs. tt)
+    (λ c κs. tt)
+    (λ c κs. tt)
     (λ c. search needs)
-    (λ c κs. search needs)
+    (λ c κs. tt)
     (λ c. search needs)
     (λ c. let s = c .before .before .before .before .before .before in omega (arith, bank-times (c .before .bank-of .result) (s .args .d) (c .before .bank-of .ensures .1), c .info-count .ensures .1))
     (λ c. let s = c .before .before .before .before .before .before in omega (arith, bank-times (c .before .bank-of .result) (s .args .d) (c .before .bank-of .ensures .1), c .info-count .ensures .1))

@@ -8,7 +8,7 @@ info-image-page-spec =
     tie.close
     (tie.spec
     (λ c κs. search needs)
-    (λ c κs. search needs)
+    (λ c κs. tt)
     (λ c. search needs)
     (λ c. search needs)
     (λ c. (rw (c .before .before .data-image-page .ensures .0, c .before .info-first .ensures .0) (search needs), search needs)))

@@ -11,10 +11,10 @@ unfolding wordAt
 word-at-spec =
     tie.close
     (tie.spec
+    (λ c κs. tt)
     (λ c κs. search needs)
     (λ c κs. search needs)
-    (λ c κs. search needs)
-    (λ c κs. search needs)
+    (λ c κs. tt)
     (λ c. omega (arith, ap (λ w. w .0) (c .before .before .first-word .ensures)))
     (λ c.
     let q = c .before .before .before in

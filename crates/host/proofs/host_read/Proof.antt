@@ -20,8 +20,8 @@ pub host-read-spec : {M : Type 1} → statement M
 unfolding hostRead delivered
 host-read-spec =
     tie.close (tie.spec
-    (λ c κs. search needs)
-    (λ c κs. search needs)
+    (λ c κs. tt)
+    (λ c κs. tt)
     (λ c κs. read-inside _ _ _ (granted c) .0)
     (λ c. search needs)
     (λ c. search needs)

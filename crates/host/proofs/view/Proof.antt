@@ -14,35 +14,34 @@ use Rattle.host.proofs.view.Tie as tie
 -- In the branch that shows the page, the checks accepted,
 granted : (c : tie.Then1) → accepts (viewAnswer (c .before .before .before .before .before .args .c) (record { words = c .before .before .before .before .before .args .image .now }) (c .before .before .before .before .before .args .p)) ≡ true
 granted c =
-    let a = c .before .before .before .view-answer in
-    let yes : accepts (a .result) ≡ true = sym (c .before .before .accepts .ensures) ∙ c .if1 .taken in
-    rw (a .ensures) at yes
+    let a = c .before .before .before .view-place in
+    let yes : accepts (a .result .answer) ≡ true = sym (c .before .before .accepts .ensures) ∙ c .if1 .taken in
+    rw (a .ensures .0) at yes
 
--- and the page's first word is found.
-found : (c : tie.After-first-word) → c .first-word .result ≡ firstWord (imagePage (c .before .before .before .before .before .before .before .args .c .pages) false 0 (c .before .before .before .before .before .before .before .args .p))
-found c = rw (c .before .image-page .ensures .0) at (c .first-word .ensures)
+-- and the view starts at the page's first word.
+found : (c : tie.Then1) → c .before .before .before .view-place .result .start ≡ firstWord (imagePage (c .before .before .before .before .before .args .c .pages) false 0 (c .before .before .before .before .before .args .p))
+unfolding view
+found c = rw (granted c) at (c .before .before .before .view-place .ensures .1)
 
 -- The number that is written is the answer's.
 told : (c : tie.After-number-of) → c .number-of .result ≡ numberOf (viewAnswer (c .before .before .before .before .args .c) (record { words = c .before .before .before .before .args .image .now }) (c .before .before .before .before .args .p))
-told c = rw (c .before .before .view-answer .ensures) at (c .number-of .ensures)
+told c = rw (c .before .before .view-place .ensures .0) at (c .number-of .ensures)
 
 pub view-spec : {M : Type 1} → statement M
 unfolding view
 view-spec =
     tie.close (tie.spec
-    (λ c κs. search needs)
-    (λ c κs. search needs)
-    (λ c κs. search needs)
-    (λ c κs. let h = view-inside _ _ _ (granted c) in omega arith)
-    (λ c κs. search needs)
+    (λ c κs. tt)
+    (λ c κs. tt)
+    (λ c κs. tt)
+    (λ c. search needs)
+    (λ c. rw (found (c .before .before)) (omega (arith, view-inside _ _ _ (granted (c .before .before)))))
+    (λ c. rw (found (c .before .before)) (omega (arith, view-inside _ _ _ (granted (c .before .before)))))
+    (λ c. search needs)
+    (λ c. search needs)
+    (λ c. rw (found (c .before .before)) (omega (arith, view-inside _ _ _ (granted (c .before .before)))))
+    (λ c. let b = c .before .before .before in (simp (granted b, found b, add-sub-cancel-left), (simp (granted b, found b), told (b .before))))
     (λ c. search needs)
     (λ c. search needs)
     (λ c. search needs)
-    (λ c. search needs)
-    (λ c. search needs)
-    (λ c. rw (found (c .before)) (omega (arith, view-inside _ _ _ (granted (c .before .before .before)))))
-    (λ c. let b = c .before .before .before .before in (simp (granted b, found (c .before .before), add-sub-cancel-left), (simp (granted b, found (c .before .before)), told (b .before))))
-    (λ c. search needs)
-    (λ c. search needs)
-    (λ c. search needs)
-    (λ c. let n = c .before .before in let a = n .before .before .view-answer in let no : accepts (a .result) ≡ false = sym (n .before .accepts .ensures) ∙ c .before .if1 .left in let refused = rw (a .ensures) at no in (simp refused, (simp refused, told n))))
+    (λ c. let n = c .before .before in let a = n .before .before .view-place in let no : accepts (a .result .answer) ≡ false = sym (n .before .accepts .ensures) ∙ c .before .if1 .left in let refused = rw (a .ensures .0) at no in (simp refused, (simp refused, told n))))

@@ -1,5 +1,4 @@
 -- `lifecycle::empty_queues` meets its contract. Assumes nothing.
-use borrow.Author.Needs.{needs}
 use Rattle.model.specs.Queue.{queueOf}
 use Rattle.lifecycle.proofs.empty_queues.Statement.{statement}
 use Rattle.lifecycle.proofs.empty_queues.Tie as tie
@@ -8,6 +7,6 @@ pub empty-queues-spec : {M : Type 1} → statement M
 unfolding queueOf
 empty-queues-spec =
     tie.close (tie.spec
-    (λ c κs. search needs)
-    (λ c κs. search needs)
+    (λ c κs. tt)
+    (λ c κs. tt)
     (λ c. rw (c .empty2 .ensures, c .before .empty .ensures)))

@@ -1,6 +1,5 @@
 -- `lifecycle::initialise` meets its contract. Assumes nothing.
 use mathlib.Core.Path.{_≡_}
-use borrow.Author.Needs.{needs}
 use mathlib.Core.Bool.{true, _&&_}
 use Rattle.model.specs.Refusals.{accepts}
 use Rattle.model.specs.Lifecycle.{initialiseAnswer, initialise}
@@ -21,11 +20,11 @@ pub initialise-spec : {M : Type 1} → statement M
 unfolding initialise
 initialise-spec =
     tie.close (tie.spec
-    (λ c κs. search needs)
-    (λ c κs. search needs)
-    (λ c κs. search needs)
-    (λ c κs. search needs)
+    (λ c κs. tt)
+    (λ c κs. tt)
+    (λ c κs. tt)
+    (λ c κs. tt)
     seeds-of-requires
     (λ c. let b = c .before in let s = b .before .before .before .before .before in rw (c .seeds-of .ensures, s .settle .ensures, s .before .with-phase .ensures, s .before .before .initialise-answer .ensures, granted b))
-    (λ c κs. search needs)
+    (λ c κs. tt)
     (λ c. let b = c .before in let s = b .before .before .before .before .before in let a = s .before .before in let no = rw (b .before .before .accepts .ensures, a .initialise-answer .ensures) at (b .if1 .left) in rw (c .no-seeds .ensures, s .settle .ensures, s .before .with-phase .ensures, a .initialise-answer .ensures, no)))

@@ -1,5 +1,4 @@
 -- `lifecycle::reset` meets its contract. Assumes nothing.
-use borrow.Author.Needs.{needs}
 use Rattle.model.specs.Lifecycle.{reset}
 use Rattle.lifecycle.proofs.reset.Statement.{statement}
 use Rattle.lifecycle.proofs.reset.Tie as tie
@@ -8,8 +7,8 @@ pub reset-spec : {M : Type 1} → statement M
 unfolding reset
 reset-spec =
     tie.close (tie.spec
-    (λ c κs. search needs)
-    (λ c κs. search needs)
-    (λ c κs. search needs)
-    (λ c κs. search needs)
+    (λ c κs. tt)
+    (λ c κs. tt)
+    (λ c κs. tt)
+    (λ c κs. tt)
     (λ c. rw (c .settle .ensures, c .before .fresh .ensures, c .before .before .check .ensures, c .before .before .before .pages-fit .ensures)))

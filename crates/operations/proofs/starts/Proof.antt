@@ -1,12 +1,11 @@
 -- `operations::starts` meets its contract. Assumes nothing.
-use borrow.Author.Needs.{needs}
 use Rattle.operations.proofs.starts.Statement.{statement}
 use Rattle.operations.proofs.starts.Tie as tie
 
 pub starts-spec : {M : Type 1} → statement M
 starts-spec =
     tie.close (tie.spec
-    (λ c κs. search needs)
-    (λ c κs. search needs)
-    (λ c κs. search needs)
+    (λ c κs. tt)
+    (λ c κs. tt)
+    (λ c κs. tt)
     (λ c. simp (c .is-denied .ensures, c .before .accepts .ensures, c .before .before .is-read .ensures)))

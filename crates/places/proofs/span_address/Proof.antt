@@ -6,7 +6,7 @@ use Rattle.places.proofs.span_address.Tie as tie
 pub span-address-spec : {M : Type 1} → statement M
 span-address-spec =
     tie.close (tie.spec
-    (λ c κs. search needs)
+    (λ c κs. tt)
     (λ c. search needs)
     (λ c. search needs)
     (λ c. search needs)

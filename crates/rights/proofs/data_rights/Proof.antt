@@ -21,7 +21,7 @@ data-rights-spec =
     (λ c. (search needs, undecided-none))
     (λ c. search needs)
     (λ c. search needs)
-    (λ c κs. search needs)
+    (λ c κs. tt)
     (λ c. search needs)
     (λ c. search needs)
     (λ c. (search needs, undecided-more regionOff (search needs) (c .before .before .before .before .loop .inv .1) (sym (c .before .decides .ensures) ∙ c .if2 .left)))

@@ -1,6 +1,5 @@
 -- `rights::info_rights` meets its contract. Assumes nothing.
 use mathlib.Core.Path.{sym, _∙_}
-use borrow.Author.Needs.{needs}
 use Rattle.model.specs.Rights.{infoRights}
 use Rattle.rights.proofs.info_rights.Statement.{statement}
 use Rattle.rights.proofs.info_rights.Tie as tie
@@ -9,8 +8,8 @@ pub info-rights-spec : {M : Type 1} → statement M
 unfolding infoRights
 info-rights-spec =
     tie.close (tie.spec
-    (λ c κs. search needs)
+    (λ c κs. tt)
     (λ c. simp (sym (c .before .seed-closed .ensures) ∙ c .if1 .taken))
-    (λ c κs. search needs)
-    (λ c κs. search needs)
+    (λ c κs. tt)
+    (λ c κs. tt)
     (λ c. simp (c .page-rights .ensures, c .before .page-setting .ensures, sym (c .before .before .before .before .seed-closed .ensures) ∙ c .before .before .before .if1 .left)))

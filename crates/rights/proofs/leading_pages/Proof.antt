@@ -21,7 +21,7 @@ leading-pages-spec =
     μ-loop
     (λ c. (search needs, passed-none))
     (λ c. search needs)
-    (λ c κs. search needs)
+    (λ c κs. tt)
     (λ c. (passed-until (search needs) (c .before .before .before .loop .inv .1) (sym (c .before .page-grants .ensures) ∙ not-true _ (c .if1 .taken)), search needs))
     (λ c. search needs)
     (λ c. search needs)

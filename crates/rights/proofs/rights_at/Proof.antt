@@ -1,5 +1,4 @@
 -- `rights::rights_at` meets its contract. Assumes nothing.
-use borrow.Author.Needs.{needs}
 use Rattle.model.specs.Rights.{rightsAt}
 use Rattle.rights.proofs.rights_at.Statement.{statement}
 use Rattle.rights.proofs.rights_at.Tie as tie
@@ -8,10 +7,10 @@ pub rights-at-spec : {M : Type 1} → statement M
 unfolding rightsAt
 rights-at-spec =
     tie.close (tie.spec
-    (λ c κs. search needs)
-    (λ c κs. search needs)
-    (λ c κs. search needs)
-    (λ c κs. search needs)
+    (λ c κs. tt)
+    (λ c κs. tt)
+    (λ c κs. tt)
+    (λ c κs. tt)
     (λ c. simp (c .info-rights .ensures, c .before .info-index .ensures, c .before .before .page-in-bank .ensures .0, c .before .before .before .bank-of .ensures .0, c .before .before .before .before .before .if1 .taken))
-    (λ c κs. search needs)
+    (λ c κs. tt)
     (λ c. simp (c .data-rights .ensures, c .before .before .if1 .left)))

@@ -1,5 +1,4 @@
 -- `settings::clear` meets its contract. Assumes nothing.
-use borrow.Author.Needs.{needs}
 use Rattle.model.specs.Errors.{clear}
 use Rattle.settings.proofs.clear.Statement.{statement}
 use Rattle.settings.proofs.clear.Tie as tie
@@ -8,9 +7,9 @@ pub clear-spec : {M : Type 1} → statement M
 unfolding clear
 clear-spec =
     tie.close (tie.spec
-    (λ c κs. search needs)
-    (λ c κs. search needs)
-    (λ c κs. search needs)
-    (λ c κs. search needs)
-    (λ c κs. search needs)
+    (λ c κs. tt)
+    (λ c κs. tt)
+    (λ c κs. tt)
+    (λ c κs. tt)
+    (λ c κs. tt)
     (λ c. rw (c .settle .ensures, c .before .with-errors .ensures, c .before .before .no-errors .ensures, c .before .before .before .check .ensures, c .before .before .before .before .valid .ensures)))

@@ -1,5 +1,4 @@
 -- `settings::set_default` meets its contract. Assumes nothing.
-use borrow.Author.Needs.{needs}
 use Rattle.model.specs.Settings.{setDefault}
 use Rattle.settings.proofs.set_default.Statement.{statement}
 use Rattle.settings.proofs.set_default.Tie as tie
@@ -8,9 +7,9 @@ pub set-default-spec : {M : Type 1} → statement M
 unfolding setDefault
 set-default-spec =
     tie.close (tie.spec
-    (λ c κs. search needs)
-    (λ c κs. search needs)
-    (λ c κs. search needs)
-    (λ c κs. search needs)
-    (λ c κs. search needs)
+    (λ c κs. tt)
+    (λ c κs. tt)
+    (λ c κs. tt)
+    (λ c κs. tt)
+    (λ c κs. tt)
     (λ c. rw (c .settle .ensures, c .before .with-settings .ensures, c .before .before .with-default .ensures, c .before .before .before .setting-answer .ensures, c .before .before .before .before .rights-fit .ensures)))

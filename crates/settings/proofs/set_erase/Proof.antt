@@ -1,5 +1,4 @@
 -- `settings::set_erase` meets its contract. Assumes nothing.
-use borrow.Author.Needs.{needs}
 use Rattle.model.specs.Settings.{setErase}
 use Rattle.settings.proofs.set_erase.Statement.{statement}
 use Rattle.settings.proofs.set_erase.Tie as tie
@@ -8,8 +7,8 @@ pub set-erase-spec : {M : Type 1} → statement M
 unfolding setErase
 set-erase-spec =
     tie.close (tie.spec
-    (λ c κs. search needs)
-    (λ c κs. search needs)
-    (λ c κs. search needs)
-    (λ c κs. search needs)
+    (λ c κs. tt)
+    (λ c κs. tt)
+    (λ c κs. tt)
+    (λ c κs. tt)
     (λ c. rw (c .settle .ensures, c .before .with-settings .ensures, c .before .before .with-erase .ensures, c .before .before .before .setting-answer .ensures)))

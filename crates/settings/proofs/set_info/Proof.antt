@@ -1,5 +1,4 @@
 -- `settings::set_info` meets its contract. Assumes nothing.
-use borrow.Author.Needs.{needs}
 use Rattle.model.specs.Settings.{setInfo}
 use Rattle.settings.proofs.set_info.Statement.{statement}
 use Rattle.settings.proofs.set_info.Tie as tie
@@ -8,11 +7,11 @@ pub set-info-spec : {M : Type 1} → statement M
 unfolding setInfo
 set-info-spec =
     tie.close (tie.spec
-    (λ c κs. search needs)
-    (λ c κs. search needs)
-    (λ c κs. search needs)
-    (λ c κs. search needs)
-    (λ c κs. search needs)
-    (λ c κs. search needs)
-    (λ c κs. search needs)
+    (λ c κs. tt)
+    (λ c κs. tt)
+    (λ c κs. tt)
+    (λ c κs. tt)
+    (λ c κs. tt)
+    (λ c κs. tt)
+    (λ c κs. tt)
     (λ c. rw (c .settle .ensures, c .before .with-settings .ensures, c .before .before .with-page .ensures, c .before .before .before .info-index .ensures, c .before .before .before .before .setting-answer .ensures, c .before .before .before .before .before .page-fits .ensures, c .before .before .before .before .before .before .info-exists .ensures)))

@@ -1,5 +1,4 @@
 -- `settings::set_region` meets its contract. Assumes nothing.
-use borrow.Author.Needs.{needs}
 use Rattle.model.specs.Settings.{setRegion}
 use Rattle.settings.proofs.set_region.Statement.{statement}
 use Rattle.settings.proofs.set_region.Tie as tie
@@ -8,9 +7,9 @@ pub set-region-spec : {M : Type 1} → statement M
 unfolding setRegion
 set-region-spec =
     tie.close (tie.spec
-    (λ c κs. search needs)
-    (λ c κs. search needs)
-    (λ c κs. search needs)
-    (λ c κs. search needs)
-    (λ c κs. search needs)
+    (λ c κs. tt)
+    (λ c κs. tt)
+    (λ c κs. tt)
+    (λ c κs. tt)
+    (λ c κs. tt)
     (λ c. rw (c .settle .ensures, c .before .with-settings .ensures, c .before .before .with-region .ensures, c .before .before .before .setting-answer .ensures, c .before .before .before .before .region-fits .ensures)))

@@ -1,5 +1,4 @@
 -- `state::recorded` meets its contract. Assumes nothing.
-use borrow.Author.Needs.{needs}
 use Rattle.model.specs.Errors.{recorded}
 use Rattle.state.proofs.recorded.Statement.{statement}
 use Rattle.state.proofs.recorded.Tie as tie
@@ -8,6 +7,6 @@ pub recorded-spec : {M : Type 1} → statement M
 unfolding recorded
 recorded-spec =
     tie.close (tie.spec
-    (λ c κs. search needs)
+    (λ c κs. tt)
     (λ c. simp (← c .before .before .before .before .before .number-of .ensures, c .before .before .before .before .if1 .taken))
     (λ c. simp (← c .before .number-of .ensures, c .if1 .left)))

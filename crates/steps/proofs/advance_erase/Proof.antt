@@ -14,10 +14,10 @@ pub advance-erase-spec : {M : Type 1} → statement M
 unfolding advance countedBits
 advance-erase-spec =
     tie.close (tie.spec
-    (λ c κs. search needs)
+    (λ c κs. tt)
     (λ c κs. let m = moving (c .before .before .before .args .c) (Erase (c .before .before .before .args .op) (c .before .before .before .args .k)) (with-valid (c .before .before .before .args .c) _ (c .before .before .before .pre .valid)) (c .before .before .before .pre .running) in (m .pages .0, m .pages .1, m .ranged, m .left))
     (λ c κs. let m = moving (c .before .before .before .before .before .args .c) (Erase (c .before .before .before .before .before .args .op) (c .before .before .before .before .before .args .k)) (with-valid (c .before .before .before .before .before .args .c) _ (c .before .before .before .before .before .pre .valid)) (c .before .before .before .before .before .pre .running) in omega (arith, m .inside, with-length (c .before .before .before .before .before .args .c) _ (c .before .before .before .before .before .pre .valid), ap (λ (w : BusWord). w .0) (c .before .place-of .ensures)))
     (λ c. omega (arith, moved-small (c .before .before .before .before .before .before .before .before .args .c) (Erase (c .before .before .before .before .before .before .before .before .args .op) (c .before .before .before .before .before .before .before .before .args .k)) (moving (c .before .before .before .before .before .before .before .before .args .c) (Erase (c .before .before .before .before .before .before .before .before .args .op) (c .before .before .before .before .before .before .before .before .args .k)) (with-valid (c .before .before .before .before .before .before .before .before .args .c) _ (c .before .before .before .before .before .before .before .before .pre .valid)) (c .before .before .before .before .before .before .before .before .pre .running))))
-    (λ c κs. search needs)
+    (λ c κs. tt)
     (λ c. search needs)
     (λ c. simp (c .moved .ensures, c .before .before .before .erase-word .ensures .0 .0, c .before .before .before .erase-word .ensures .1, c .before .before .before .before .before .place-of .ensures, c .before .before .before .before .before .before .total-words .ensures)))

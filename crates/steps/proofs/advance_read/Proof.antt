@@ -1,7 +1,6 @@
 -- `steps::advance_read` meets its contract. Assumes nothing.
 use mathlib.Core.Path.{ap}
 use borrow.Author.Tests.{leb-false}
-use borrow.Author.Needs.{needs}
 use native.Mathlib.Omega.{arith}
 use Rattle.model.specs.Steps.{stalls, advance}
 use Rattle.model.specs.declared.BusWord.{BusWord}
@@ -15,11 +14,11 @@ pub advance-read-spec : {M : Type 1} → statement M
 unfolding advance stalls
 advance-read-spec =
     tie.close (tie.spec
-    (λ c κs. search needs)
+    (λ c κs. tt)
     (λ c κs. let m = moving (c .before .before .before .before .args .c) (Read (c .before .before .before .before .args .op) (c .before .before .before .before .args .k) (c .before .before .before .before .args .readable)) (with-valid (c .before .before .before .before .args .c) _ (c .before .before .before .before .pre .valid)) (c .before .before .before .before .pre .running) in (m .pages .0, m .pages .1, m .ranged, m .left))
     (λ c κs. let m = moving (c .before .before .before .before .before .args .c) (Read (c .before .before .before .before .before .args .op) (c .before .before .before .before .before .args .k) (c .before .before .before .before .before .args .readable)) (with-valid (c .before .before .before .before .before .args .c) _ (c .before .before .before .before .before .pre .valid)) (c .before .before .before .before .before .pre .running) in omega (arith, m .inside, with-length (c .before .before .before .before .before .args .c) _ (c .before .before .before .before .before .pre .valid), ap (λ (w : BusWord). w .0) (c .place-of .ensures)))
     (λ c κs. leb-false 16 _ (c .before .before .before .before .before .before .pre .goes))
-    (λ c κs. search needs)
+    (λ c κs. tt)
     (λ c. omega (arith, moved-small (c .before .before .before .before .before .before .before .before .args .c) (Read (c .before .before .before .before .before .before .before .before .args .op) (c .before .before .before .before .before .before .before .before .args .k) (c .before .before .before .before .before .before .before .before .args .readable)) (moving (c .before .before .before .before .before .before .before .before .args .c) (Read (c .before .before .before .before .before .before .before .before .args .op) (c .before .before .before .before .before .before .before .before .args .k) (c .before .before .before .before .before .before .before .before .args .readable)) (with-valid (c .before .before .before .before .before .before .before .before .args .c) _ (c .before .before .before .before .before .before .before .before .pre .valid)) (c .before .before .before .before .before .before .before .before .pre .running))))
-    (λ c κs. search needs)
+    (λ c κs. tt)
     (λ c. simp (c .moved .ensures, c .before .with-reads .ensures, c .before .before .push .ensures, c .before .before .before .read-word .ensures, c .before .before .before .before .place-of .ensures, c .before .before .before .before .before .total-words .ensures)))

@@ -1,0 +1,3 @@
+-- What the transfers ask for.
+
+pub mod Placed

@@ -1,3 +1,0 @@
--- What a whole operation's leaves ask for.
-
-pub mod Placed
