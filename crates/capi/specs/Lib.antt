@@ -1,0 +1,3 @@
+-- The calls over the flat state.
+
+pub mod Calls

@@ -1,0 +1,11 @@
+-- `flat::phase_of` meets its contract. Assumes nothing.
+use borrow.Author.Tests.{eq-eqb, ne-eqb}
+use Rattle.flat.proofs.phase_of.Statement.{statement}
+use Rattle.flat.proofs.phase_of.Tie as tie
+
+pub phase-of-spec : {M : Type 1} → statement M
+phase-of-spec =
+    tie.close (tie.spec
+    (λ c. simp (eq-eqb _ _ (c .if1 .taken)))
+    (λ c. simp (ne-eqb _ _ (c .before .if1 .left), eq-eqb _ _ (c .if2 .taken)))
+    (λ c. simp (ne-eqb _ _ (c .before .if1 .left), ne-eqb _ _ (c .if2 .left))))

@@ -1,0 +1,3 @@
+-- The flat state that C and Rust hold.
+
+pub mod Encoding

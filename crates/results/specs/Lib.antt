@@ -1,0 +1,3 @@
+-- What the calls over the flat state hand back.
+
+pub mod Results
