@@ -1,0 +1,61 @@
+// What the lines are made of: numbers, answers, and operations as a bench engineer writes them.
+use libc::STDOUT_FILENO;
+use model::Answer;
+use model::Operation;
+
+pub fn text(words: &[u8]) {
+    io::write_all(STDOUT_FILENO, words);
+}
+
+pub fn number(label: &[u8], n: u64) {
+    text(label);
+    io::print_decimal(STDOUT_FILENO, n);
+}
+
+pub fn hex(label: &[u8], n: u32, width: usize) {
+    text(label);
+    io::print_hex(STDOUT_FILENO, n as u64, width);
+}
+
+// The answer by its number in 01: 0 if the call is accepted.
+pub fn answer(label: &[u8], a: Answer) {
+    number(label, refusals::number_of(a) as u64);
+}
+
+pub fn answer_line(a: Answer) {
+    answer(b": ", a);
+    text(b"\n");
+}
+
+fn kind(k: u8) {
+    match k {
+        0 => text(b"read"),
+        1 => text(b"program"),
+        2 => text(b"page erase"),
+        3 => text(b"bank erase"),
+        4..=255 => number(b"kind ", k as u64),
+    }
+}
+
+// Data operations and bank erases ignore the type.
+fn partition(o: Operation) {
+    if o.partition == 0 {
+        return;
+    }
+    if o.kind == 3 {
+        text(b" with information");
+        return;
+    }
+    number(b" of type ", o.info as u64);
+}
+
+// Erases ignore n.
+pub fn operation(o: Operation) {
+    let at = o.address;
+    kind(o.kind);
+    partition(o);
+    hex(b" at 0x", at.0, 4);
+    if o.kind < 2 {
+        number(b", n=", o.count as u64);
+    }
+}
