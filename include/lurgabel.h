@@ -1,0 +1,417 @@
+/*
+ * Lurgabel: a machine-proved model of the OpenTitan flash protocol controller and its flash.
+ *
+ * A bench holds two things: a lurgabel_controller, which is plain data, and the image of the flash, an array of
+ * LURGABEL_IMAGE_WORDS(D) bus words. Every call takes any controller, also a broken one, and any image length, and
+ * answers; it never traps. A refusal gives its number (lurgabel_answer), otherwise a word of 0, a bit count of 0 and no
+ * seeds, and leaves the controller field for field as it was, unless the table at lurgabel_answer says 'recorded'.
+ *
+ * The calls are proved against the definitions in crates/model/specs, for every input. What is not proved is the
+ * boundary itself (this header); its tests are in tests/ and reference/.
+ *
+ * C99, and C++ from C++11 on. Link with the static library that './lurgabel library' names.
+ */
+#ifndef LURGABEL_H
+#define LURGABEL_H
+
+#include <stdbool.h>
+#include <stddef.h>
+#include <stdint.h>
+
+#ifdef __cplusplus
+extern "C" {
+#endif
+
+/* ---- geometry ------------------------------------------------------------------------------------------------- */
+
+#define LURGABEL_BANKS 2u
+#define LURGABEL_PAGE_WORDS 256u      /* bus words of 32 bits in a page */
+#define LURGABEL_PAGE_BYTES 1024u
+#define LURGABEL_INFO_PAGES 13u       /* information pages in a bank: 10 of type 0, 1 of type 1, 2 of type 2 */
+#define LURGABEL_REGIONS 8u
+#define LURGABEL_QUEUE_WORDS 16u
+#define LURGABEL_SEED_WORDS 8u
+#define LURGABEL_MIN_DATA_PAGES 10u
+#define LURGABEL_MAX_DATA_PAGES 256u
+#define LURGABEL_MAX_COUNT 1024u      /* largest count of a read or a program */
+#define LURGABEL_ERASED 0xFFFFFFFFu   /* an erased bus word */
+
+/* The length of an image with D data pages in each bank: bank 0's data pages, its information pages of type 0, 1 and
+ * 2, then bank 1 alike. */
+#define LURGABEL_IMAGE_WORDS(D) (2u * ((D) + LURGABEL_INFO_PAGES) * LURGABEL_PAGE_WORDS)
+
+/* The byte address of an offset in a page of a bank, and the place of an information page in info_pages. */
+#define LURGABEL_ADDRESS(D, bank, page, offset) (((bank) * (D) + (page)) * LURGABEL_PAGE_BYTES + (offset))
+#define LURGABEL_INFO_INDEX(bank, type, page) ((bank) * LURGABEL_INFO_PAGES + ((type) ? (type) + 9u : 0u) + (page))
+
+/* Special information pages, all of bank 0, type 0. */
+#define LURGABEL_CREATOR_SEED_PAGE 1u
+#define LURGABEL_OWNER_SEED_PAGE 2u
+#define LURGABEL_ISOLATED_PAGE 3u
+
+/* ---- what is asked -------------------------------------------------------------------------------------------- */
+
+/* Kinds of operation; 4 to 255 are none. */
+#define LURGABEL_READ 0u
+#define LURGABEL_PROGRAM 1u
+#define LURGABEL_PAGE_ERASE 2u
+#define LURGABEL_BANK_ERASE 3u
+
+/* Partitions. */
+#define LURGABEL_DATA 0u
+#define LURGABEL_INFORMATION 1u
+
+/* Rights, added up. */
+#define LURGABEL_CAN_READ 1u
+#define LURGABEL_CAN_PROGRAM 2u
+#define LURGABEL_CAN_ERASE 4u
+#define LURGABEL_ALL_RIGHTS 7u
+
+typedef struct lurgabel_operation {
+    uint32_t address;   /* byte address: bank x D x 1,024 + page x 1,024 + offset, for information pages too */
+    uint32_t count;     /* n bus words of a read or program, 1 to 1,024; an erase ignores it */
+    uint8_t kind;       /* LURGABEL_READ .. */
+    uint8_t partition;  /* LURGABEL_DATA or LURGABEL_INFORMATION */
+    uint8_t info_type;  /* 0 to 2; data operations and bank erases ignore it */
+} lurgabel_operation;
+
+/* ---- what is answered ----------------------------------------------------------------------------------------- */
+
+typedef enum lurgabel_answer {
+    LURGABEL_ACCEPTED = 0,
+    LURGABEL_INVALID = 1,         /* D, the length of the image or the controller's state is wrong: all unchanged */
+    LURGABEL_DISABLED = 2,        /* disabled by RMA until reset: all unchanged */
+    LURGABEL_UNINITIALISED = 3,   /* not initialised yet: all unchanged */
+    LURGABEL_BUSY = 4,            /* an operation is in progress; for a whole one, also a word in a queue: unchanged */
+    LURGABEL_MALFORMED = 5,       /* no such kind, partition or type, address unaligned, count out of range: recorded */
+    LURGABEL_SHORT_BUFFER = 6,    /* the buffer of a whole read or program is shorter than its count: all unchanged */
+    LURGABEL_OUT_OF_RANGE = 7,    /* the address or the span leaves its pages: recorded */
+    LURGABEL_CROSSES_WINDOW = 8,  /* a program's bytes lie in different 64-byte windows: recorded */
+    LURGABEL_DENIED = 9,          /* the rights do not allow it: recorded; a read still starts, and delivers ones */
+    LURGABEL_QUEUE_EMPTY = 10,    /* pop with no word in the read queue: all unchanged */
+    LURGABEL_QUEUE_FULL = 11,     /* push with 16 words in the program queue: all unchanged */
+    LURGABEL_UNEXPECTED = 12,     /* step with nothing in progress; push with no program, or all its words pushed;
+                                     initialise when ready: all unchanged */
+    LURGABEL_BAD_SETTING = 13     /* no such region, type, page or bank, rights over 7, a region past 2D: unchanged */
+} lurgabel_answer;
+
+/* 'Recorded': the refusal's bit joins lurgabel_controller.recorded, the operation's address becomes last_address, and
+ * nothing else changes, save that a denied read starts. Host reads and views record nothing. */
+
+static inline const char *lurgabel_answer_text(lurgabel_answer answer) {
+    switch (answer) {
+    case LURGABEL_ACCEPTED: return "accepted";
+    case LURGABEL_INVALID: return "invalid state, data page count or image length";
+    case LURGABEL_DISABLED: return "controller is disabled until reset";
+    case LURGABEL_UNINITIALISED: return "controller is not initialised";
+    case LURGABEL_BUSY: return "an operation is in progress, or a queue holds words";
+    case LURGABEL_MALFORMED: return "malformed operation or address";
+    case LURGABEL_SHORT_BUFFER: return "buffer is shorter than the operation";
+    case LURGABEL_OUT_OF_RANGE: return "outside the pages";
+    case LURGABEL_CROSSES_WINDOW: return "program crosses a 64-byte window";
+    case LURGABEL_DENIED: return "access denied";
+    case LURGABEL_QUEUE_EMPTY: return "read queue is empty";
+    case LURGABEL_QUEUE_FULL: return "program queue is full";
+    case LURGABEL_UNEXPECTED: return "nothing in progress that takes this call";
+    case LURGABEL_BAD_SETTING: return "no such setting, or a value out of range";
+    }
+    return "no such answer";
+}
+
+/* What a step did. */
+typedef enum lurgabel_movement {
+    LURGABEL_NONE = 0,      /* nothing: it was refused */
+    LURGABEL_MOVED = 1,     /* a word moved */
+    LURGABEL_FINISHED = 2,  /* the last word moved */
+    LURGABEL_STALLED = 3    /* nothing yet: a read waits for room in its queue, a program for a word */
+} lurgabel_movement;
+
+/* ---- the controller's state ----------------------------------------------------------------------------------- */
+
+/* A memory protection region over data pages 0 to 2D - 1, both banks together. The lowest-numbered region that is on
+ * and holds a page decides alone; if there is none, default_rights does. */
+typedef struct lurgabel_region {
+    uint32_t first_page;
+    uint32_t page_count;  /* first_page + page_count is at most 2D, also where the region is off */
+    uint8_t on;           /* 0 or 1 */
+    uint8_t rights;       /* 0 to 7 */
+} lurgabel_region;
+
+/* The setting of one information page; switched off, it denies everything. */
+typedef struct lurgabel_page_setting {
+    uint8_t on;      /* 0 or 1 */
+    uint8_t rights;  /* 0 to 7 */
+} lurgabel_page_setting;
+
+/* The words that a queue holds are the first `length` of `words`, oldest first. No rule looks at the places after
+ * them, and an accepted call that changes the queue leaves zeros there. */
+typedef struct lurgabel_queue {
+    uint32_t words[16];
+    uint32_t length;  /* 0 to 16 */
+} lurgabel_queue;
+
+/* The operation in progress. While `running` is 0 no rule looks at the other fields, and none looks at `readable` of a
+ * program or an erase; a start sets them anew, the last step sets them to 0, and a whole operation leaves them. */
+typedef struct lurgabel_progress {
+    lurgabel_operation operation;  /* as it was started; its kind is 0 to 3 */
+    uint32_t moved;                /* words moved so far: fewer than the operation has */
+    uint32_t readable;             /* of a read: its count, or 0 if the read is denied and delivers ones */
+    uint8_t running;               /* 0 or 1 */
+} lurgabel_progress;
+
+/* Phases. */
+#define LURGABEL_PHASE_UNINITIALISED 0u
+#define LURGABEL_PHASE_READY 1u
+#define LURGABEL_PHASE_DISABLED 2u
+
+/* The bit of a recorded kind in `recorded`: of LURGABEL_MALFORMED, _OUT_OF_RANGE, _CROSSES_WINDOW or _DENIED. */
+#define LURGABEL_RECORDED(answer) (1u << (answer))
+
+/* The whole state, as plain data that a bench may read, copy, compare and write. Whatever stands in it, every call
+ * answers; what encodes no state of the controller (a flag of 7, a phase of 9, another bit in `recorded`, a running
+ * operation of kind 4 or more) is refused with LURGABEL_INVALID, as is a state that the controller cannot be in.
+ * Only lurgabel_reset takes any state. */
+typedef struct lurgabel_controller {
+    uint32_t data_pages;                  /* D, the data pages in each bank: 10 to 256 */
+    uint8_t phase;                        /* LURGABEL_PHASE_.. */
+    uint8_t provision_enabled;            /* life-cycle input: 0 or 1 */
+    uint8_t seeds_locked;                 /* life-cycle input: 0 or 1 */
+    uint8_t default_rights;               /* of data pages that no region decides: 0 to 7 */
+    lurgabel_region regions[8];
+    lurgabel_page_setting info_pages[26]; /* at LURGABEL_INFO_INDEX(bank, type, page) */
+    uint8_t bank_erase[2];                /* whether a bank may be erased: 0 or 1 */
+    lurgabel_progress progress;           /* only when ready */
+    lurgabel_queue read_queue;            /* empty unless ready */
+    lurgabel_queue program_queue;         /* words pushed and not yet moved; empty unless a program is in progress */
+    uint32_t recorded;                    /* LURGABEL_RECORDED(..) of the recorded kinds, added up */
+    uint32_t last_address;                /* of the last recorded error; 0 if no kind is recorded */
+} lurgabel_controller;
+
+/* What initialising hands out: the first 8 bus words of the creator and of the owner seed page, or zeros. */
+typedef struct lurgabel_seeds {
+    uint32_t creator[8];
+    uint32_t owner[8];
+    uint8_t given;  /* 1 if provision is enabled and the call was accepted, else 0 */
+} lurgabel_seeds;
+
+/* ---- the library's own functions ------------------------------------------------------------------------------ */
+
+/* They take the controller by value and hand it back in their result. The calls below are easier to use. */
+
+typedef struct lurgabel_outcome {
+    lurgabel_controller controller;
+    uint32_t answer;
+} lurgabel_outcome;
+
+typedef struct lurgabel_fetched {
+    lurgabel_controller controller;
+    uint32_t answer;
+    uint32_t word;
+} lurgabel_fetched;
+
+typedef struct lurgabel_stepped {
+    lurgabel_controller controller;
+    uint32_t answer;
+    uint32_t movement;
+    uint32_t bits;
+} lurgabel_stepped;
+
+typedef struct lurgabel_initialised {
+    lurgabel_controller controller;
+    uint32_t answer;
+    lurgabel_seeds seeds;
+} lurgabel_initialised;
+
+typedef struct lurgabel_completed {
+    lurgabel_controller controller;
+    uint32_t answer;
+    uint32_t bits;
+} lurgabel_completed;
+
+typedef struct lurgabel_viewed {
+    uint32_t answer;
+    uint32_t start;  /* the bus word of the image at which the view starts; 0 if it is refused */
+} lurgabel_viewed;
+
+lurgabel_outcome lurgabel_value_reset(lurgabel_controller c, uint32_t data_pages);
+lurgabel_outcome lurgabel_value_set_inputs(lurgabel_controller c, uint8_t provision_enabled, uint8_t seeds_locked);
+lurgabel_outcome lurgabel_value_set_region(lurgabel_controller c, uint32_t number, lurgabel_region region);
+lurgabel_outcome lurgabel_value_set_default_rights(lurgabel_controller c, uint8_t rights);
+lurgabel_outcome lurgabel_value_set_info_page(lurgabel_controller c, uint32_t bank, uint8_t info_type, uint32_t page,
+                                              lurgabel_page_setting setting);
+lurgabel_outcome lurgabel_value_set_bank_erase(lurgabel_controller c, uint32_t bank, uint8_t on);
+lurgabel_outcome lurgabel_value_clear_errors(lurgabel_controller c);
+lurgabel_initialised lurgabel_value_initialise(lurgabel_controller c, const uint32_t *image, size_t image_words);
+lurgabel_outcome lurgabel_value_start(lurgabel_controller c, lurgabel_operation operation);
+lurgabel_stepped lurgabel_value_step(lurgabel_controller c, uint32_t *image, size_t image_words);
+lurgabel_outcome lurgabel_value_push(lurgabel_controller c, uint32_t word);
+lurgabel_fetched lurgabel_value_pop(lurgabel_controller c);
+lurgabel_completed lurgabel_value_run(lurgabel_controller c, uint32_t *image, size_t image_words,
+                                      lurgabel_operation operation, uint32_t *buffer, size_t buffer_words);
+lurgabel_fetched lurgabel_value_host_read(lurgabel_controller c, const uint32_t *image, size_t image_words,
+                                          uint32_t address);
+lurgabel_viewed lurgabel_value_view(lurgabel_controller c, const uint32_t *image, size_t image_words, uint32_t page);
+lurgabel_outcome lurgabel_value_rma(lurgabel_controller c, uint32_t *image, size_t image_words);
+
+/* ---- the calls ------------------------------------------------------------------------------------------------ */
+
+/* Each changes *c as its rule says and returns the answer. A pointer that a value goes to may be NULL. An image and a
+ * buffer are lent for the time of the call: each has as many words as its length says (with a length of 0 it may be
+ * NULL), and they must not overlap each other. */
+
+/* Resets any controller, whatever stands in it (a new variable is best set to zeros), to D data pages in each bank:
+ * every setting and input off or 0. It touches no image. Checks D alone. */
+static inline lurgabel_answer lurgabel_reset(lurgabel_controller *c, uint32_t data_pages) {
+    lurgabel_outcome r = lurgabel_value_reset(*c, data_pages);
+    *c = r.controller;
+    return (lurgabel_answer)r.answer;
+}
+
+/* Inputs and settings: refused while an operation is in progress, allowed when disabled. */
+static inline lurgabel_answer lurgabel_set_inputs(lurgabel_controller *c, bool provision_enabled, bool seeds_locked) {
+    lurgabel_outcome r = lurgabel_value_set_inputs(*c, provision_enabled, seeds_locked);
+    *c = r.controller;
+    return (lurgabel_answer)r.answer;
+}
+
+/* Region 0 to 7. Any `on` but 0 switches it on. */
+static inline lurgabel_answer lurgabel_set_region(lurgabel_controller *c, uint32_t number, lurgabel_region region) {
+    lurgabel_outcome r = lurgabel_value_set_region(*c, number, region);
+    *c = r.controller;
+    return (lurgabel_answer)r.answer;
+}
+
+static inline lurgabel_answer lurgabel_set_default_rights(lurgabel_controller *c, uint8_t rights) {
+    lurgabel_outcome r = lurgabel_value_set_default_rights(*c, rights);
+    *c = r.controller;
+    return (lurgabel_answer)r.answer;
+}
+
+/* An information page, by its bank, its type and its number in the type. Any `on` but 0 switches it on. */
+static inline lurgabel_answer lurgabel_set_info_page(lurgabel_controller *c, uint32_t bank, uint8_t info_type,
+                                                     uint32_t page, lurgabel_page_setting setting) {
+    lurgabel_outcome r = lurgabel_value_set_info_page(*c, bank, info_type, page, setting);
+    *c = r.controller;
+    return (lurgabel_answer)r.answer;
+}
+
+static inline lurgabel_answer lurgabel_set_bank_erase(lurgabel_controller *c, uint32_t bank, bool on) {
+    lurgabel_outcome r = lurgabel_value_set_bank_erase(*c, bank, on);
+    *c = r.controller;
+    return (lurgabel_answer)r.answer;
+}
+
+/* Clears the recorded kinds and the last address. */
+static inline lurgabel_answer lurgabel_clear_errors(lurgabel_controller *c) {
+    lurgabel_outcome r = lurgabel_value_clear_errors(*c);
+    *c = r.controller;
+    return (lurgabel_answer)r.answer;
+}
+
+/* Makes a controller that was reset ready. With provision enabled the seeds are handed out. */
+static inline lurgabel_answer lurgabel_initialise(lurgabel_controller *c, const uint32_t *image, size_t image_words,
+                                                  lurgabel_seeds *seeds) {
+    lurgabel_initialised r = lurgabel_value_initialise(*c, image, image_words);
+    *c = r.controller;
+    if (seeds != NULL) {
+        *seeds = r.seeds;
+    }
+    return (lurgabel_answer)r.answer;
+}
+
+/* Starts an operation, which steps then carry out. */
+static inline lurgabel_answer lurgabel_start(lurgabel_controller *c, lurgabel_operation operation) {
+    lurgabel_outcome r = lurgabel_value_start(*c, operation);
+    *c = r.controller;
+    return (lurgabel_answer)r.answer;
+}
+
+/* Moves one word of the operation in progress; `bits` is how many bits it changed in the flash. */
+static inline lurgabel_answer lurgabel_step(lurgabel_controller *c, uint32_t *image, size_t image_words,
+                                            lurgabel_movement *movement, uint32_t *bits) {
+    lurgabel_stepped r = lurgabel_value_step(*c, image, image_words);
+    *c = r.controller;
+    if (movement != NULL) {
+        *movement = (lurgabel_movement)r.movement;
+    }
+    if (bits != NULL) {
+        *bits = r.bits;
+    }
+    return (lurgabel_answer)r.answer;
+}
+
+/* Gives a program in progress its next word. */
+static inline lurgabel_answer lurgabel_push(lurgabel_controller *c, uint32_t word) {
+    lurgabel_outcome r = lurgabel_value_push(*c, word);
+    *c = r.controller;
+    return (lurgabel_answer)r.answer;
+}
+
+/* Takes the oldest word that a read has delivered. */
+static inline lurgabel_answer lurgabel_pop(lurgabel_controller *c, uint32_t *word) {
+    lurgabel_fetched r = lurgabel_value_pop(*c);
+    *c = r.controller;
+    if (word != NULL) {
+        *word = r.word;
+    }
+    return (lurgabel_answer)r.answer;
+}
+
+/* Runs a whole operation: start, steps, pushes and pops until it is finished and drained. A program takes its words
+ * from the first `count` places of the buffer, a read puts its words there; an erase leaves the buffer alone. A denied
+ * read answers LURGABEL_DENIED and puts ones there. `bits` is the sum over the steps. */
+static inline lurgabel_answer lurgabel_run(lurgabel_controller *c, uint32_t *image, size_t image_words,
+                                           lurgabel_operation operation, uint32_t *buffer, size_t buffer_words,
+                                           uint32_t *bits) {
+    lurgabel_completed r = lurgabel_value_run(*c, image, image_words, operation, buffer, buffer_words);
+    *c = r.controller;
+    if (bits != NULL) {
+        *bits = r.bits;
+    }
+    return (lurgabel_answer)r.answer;
+}
+
+/* Reads one data word past the queues, also during an operation. It leaves *c as it is today; later models may note
+ * there what was read. */
+static inline lurgabel_answer lurgabel_host_read(lurgabel_controller *c, const uint32_t *image, size_t image_words,
+                                                 uint32_t address, uint32_t *word) {
+    lurgabel_fetched r = lurgabel_value_host_read(*c, image, image_words, address);
+    *c = r.controller;
+    if (word != NULL) {
+        *word = r.word;
+    }
+    return (lurgabel_answer)r.answer;
+}
+
+/* The 256 words of a data page (0 to 2D - 1) inside the caller's own image, or NULL if the view is refused. */
+static inline const uint32_t *lurgabel_view(const lurgabel_controller *c, const uint32_t *image, size_t image_words,
+                                            uint32_t page, lurgabel_answer *answer) {
+    lurgabel_viewed r = lurgabel_value_view(*c, image, image_words, page);
+    if (answer != NULL) {
+        *answer = (lurgabel_answer)r.answer;
+    }
+    return r.answer == LURGABEL_ACCEPTED ? image + r.start : NULL;
+}
+
+/* Enters RMA: wipes every data page and the special pages, empties the queues and disables the controller. */
+static inline lurgabel_answer lurgabel_rma(lurgabel_controller *c, uint32_t *image, size_t image_words) {
+    lurgabel_outcome r = lurgabel_value_rma(*c, image, image_words);
+    *c = r.controller;
+    return (lurgabel_answer)r.answer;
+}
+
+/* ---- helpers -------------------------------------------------------------------------------------------------- */
+
+/* Fills an image with erased words, as a blank flash has them. */
+static inline void lurgabel_blank_image(uint32_t *image, size_t image_words) {
+    size_t i;
+    for (i = 0; i < image_words; i++) {
+        image[i] = LURGABEL_ERASED;
+    }
+}
+
+#ifdef __cplusplus
+}
+#endif
+
+#endif /* LURGABEL_H */
