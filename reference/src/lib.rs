@@ -1,5 +1,7 @@
-//! A second, independent program for the flash controller of document 01.
+//! A second, independent program for the flash controller of document 01, and
+//! the C interface of the proved model, so that the two can be compared.
 //!
-//! It shares no code with the proved model. It exists to be compared with it.
+//! The second program (`model`) shares no code with the proved model.
 
+pub mod interface;
 pub mod model;

@@ -682,16 +682,18 @@ fn allowed(c: &Controller, operation: &Operation) -> bool {
     touched_addresses(operation).all(|address| rights_at(c, operation, address) & right != 0)
 }
 
-/// The byte addresses by which an operation is judged: each of its words, the
-/// one address of a page erase, none for a bank erase.
+/// The byte addresses by which an operation is judged, one in each page that it
+/// touches: of a read or program the first of its words there, the one address
+/// of a page erase, none for a bank erase.
 fn touched_addresses(operation: &Operation) -> impl Iterator<Item = u64> {
     let first = u64::from(operation.address);
-    let words = match operation.kind {
-        READ | PROGRAM => u64::from(operation.count),
-        PAGE_ERASE => 1,
-        _ => 0,
+    let first_page = first / PAGE_BYTES;
+    let end_page = match operation.kind {
+        READ | PROGRAM => (first + WORD_BYTES * u64::from(operation.count)).div_ceil(PAGE_BYTES),
+        PAGE_ERASE => first_page + 1,
+        _ => first_page,
     };
-    (0..words).map(move |i| first + WORD_BYTES * i)
+    (first_page..end_page).map(move |page| first.max(page * PAGE_BYTES))
 }
 
 // ---------------------------------------------------------------------------
@@ -871,7 +873,7 @@ fn bits_changed(old: u32, new: u32) -> u32 {
 }
 
 /// How many bus words an operation moves, one for each moving step.
-fn words_to_move(data_pages: u32, operation: &Operation) -> u64 {
+pub fn words_to_move(data_pages: u32, operation: &Operation) -> u64 {
     match (operation.kind, operation.partition) {
         (READ | PROGRAM, _) => u64::from(operation.count),
         (PAGE_ERASE, _) => PAGE_WORDS,

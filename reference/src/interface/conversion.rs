@@ -1,0 +1,187 @@
+//! Between the flat struct of the C interface and the second program's state.
+
+use super::flat;
+use crate::model::{
+    self, Controller, InProgress, InfoSetting, Operation, Phase, Queue, Region, BANK_ERASE,
+    PAGE_ERASE, PROGRAM, READ,
+};
+
+/// The kinds that a record holds: 5, 7, 8 and 9.
+const RECORDED_KINDS: u32 =
+    1 << model::MALFORMED | 1 << model::OUTSIDE | 1 << model::WINDOW | 1 << model::DENIED;
+
+/// None if a field encodes nothing: a flag over 1, a phase over 2, another bit
+/// in the record than its four kinds, or an operation in progress of no kind.
+pub fn to_reference(c: &flat::Controller) -> Option<Controller> {
+    Some(Controller {
+        data_pages: c.data_pages,
+        phase: phase(c.phase)?,
+        provision_enabled: flag(c.provision_enabled)?,
+        seeds_locked: flag(c.seeds_locked)?,
+        regions: all(c.regions, region)?,
+        default_rights: c.default_rights,
+        info_settings: all(c.info_pages, info_setting)?,
+        bank_erase_permissions: all(c.bank_erase, flag)?,
+        recorded: recorded(c.recorded)?,
+        last_address: c.last_address,
+        read_queue: queue(c.read_queue),
+        program_queue: queue(c.program_queue),
+        in_progress: in_progress(c.progress)?,
+    })
+}
+
+fn all<A: Copy, B: Copy + Default, const N: usize>(
+    list: [A; N],
+    decode: impl Fn(A) -> Option<B>,
+) -> Option<[B; N]> {
+    let mut decoded = [B::default(); N];
+    for (to, from) in decoded.iter_mut().zip(list) {
+        *to = decode(from)?;
+    }
+    Some(decoded)
+}
+
+fn flag(byte: u8) -> Option<bool> {
+    match byte {
+        0 => Some(false),
+        1 => Some(true),
+        _ => None,
+    }
+}
+
+fn phase(byte: u8) -> Option<Phase> {
+    match byte {
+        flat::PHASE_UNINITIALISED => Some(Phase::Fresh),
+        flat::PHASE_READY => Some(Phase::Ready),
+        flat::PHASE_DISABLED => Some(Phase::Shut),
+        _ => None,
+    }
+}
+
+fn recorded(bits: u32) -> Option<u32> {
+    (bits & !RECORDED_KINDS == 0).then_some(bits)
+}
+
+fn region(r: flat::Region) -> Option<Region> {
+    Some(Region {
+        on: flag(r.on)?,
+        first_page: r.first_page,
+        page_count: r.page_count,
+        rights: r.rights,
+    })
+}
+
+fn info_setting(s: flat::PageSetting) -> Option<InfoSetting> {
+    Some(InfoSetting {
+        on: flag(s.on)?,
+        rights: s.rights,
+    })
+}
+
+fn queue(q: flat::Queue) -> Queue {
+    Queue {
+        words: q.words,
+        length: q.length,
+    }
+}
+
+/// While nothing is running, the other fields encode nothing.
+fn in_progress(p: flat::Progress) -> Option<InProgress> {
+    if !flag(p.running)? {
+        return Some(InProgress::Nothing);
+    }
+    let operation = Operation::from(p.operation);
+    let moved = p.moved;
+    match operation.kind {
+        READ => Some(InProgress::Read {
+            operation,
+            moved,
+            readable: p.readable,
+        }),
+        PROGRAM => Some(InProgress::Program { operation, moved }),
+        PAGE_ERASE | BANK_ERASE => Some(InProgress::Erase { operation, moved }),
+        _ => None,
+    }
+}
+
+impl From<flat::Operation> for Operation {
+    fn from(o: flat::Operation) -> Self {
+        Operation {
+            kind: o.kind,
+            partition: o.partition,
+            info_type: o.info_type,
+            address: o.address,
+            count: o.count,
+        }
+    }
+}
+
+impl From<Operation> for flat::Operation {
+    fn from(o: Operation) -> Self {
+        flat::Operation {
+            address: o.address,
+            count: o.count,
+            kind: o.kind,
+            partition: o.partition,
+            info_type: o.info_type,
+        }
+    }
+}
+
+/// Unused fields of the progress are 0.
+pub fn from_reference(c: &Controller) -> flat::Controller {
+    flat::Controller {
+        data_pages: c.data_pages,
+        phase: match c.phase {
+            Phase::Fresh => flat::PHASE_UNINITIALISED,
+            Phase::Ready => flat::PHASE_READY,
+            Phase::Shut => flat::PHASE_DISABLED,
+        },
+        provision_enabled: u8::from(c.provision_enabled),
+        seeds_locked: u8::from(c.seeds_locked),
+        default_rights: c.default_rights,
+        regions: c.regions.map(|r| flat::Region {
+            first_page: r.first_page,
+            page_count: r.page_count,
+            on: u8::from(r.on),
+            rights: r.rights,
+        }),
+        info_pages: c.info_settings.map(|s| flat::PageSetting {
+            on: u8::from(s.on),
+            rights: s.rights,
+        }),
+        bank_erase: c.bank_erase_permissions.map(u8::from),
+        progress: flat_progress(c.in_progress),
+        read_queue: flat_queue(c.read_queue),
+        program_queue: flat_queue(c.program_queue),
+        recorded: c.recorded,
+        last_address: c.last_address,
+    }
+}
+
+fn flat_queue(q: Queue) -> flat::Queue {
+    flat::Queue {
+        words: q.words,
+        length: q.length,
+    }
+}
+
+fn flat_progress(p: InProgress) -> flat::Progress {
+    let running = |operation: Operation, moved, readable| flat::Progress {
+        operation: operation.into(),
+        moved,
+        readable,
+        running: 1,
+    };
+    match p {
+        InProgress::Nothing => flat::Progress::default(),
+        InProgress::Read {
+            operation,
+            moved,
+            readable,
+        } => running(operation, moved, readable),
+        InProgress::Program { operation, moved } | InProgress::Erase { operation, moved } => {
+            running(operation, moved, 0)
+        }
+    }
+}

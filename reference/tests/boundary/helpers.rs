@@ -1,0 +1,102 @@
+//! What most boundary tests need.
+
+use reference::interface::{fields, flat};
+use reference::model::{self, INFORMATION};
+
+/// The D of a bench program.
+pub const D: u32 = 16;
+pub const INFO_PAGES_OF_TYPE: [(u8, u32); 3] = [(0, 10), (1, 1), (2, 2)];
+
+/// Just reset: everything else is 0.
+pub fn fresh() -> flat::Controller {
+    flat::Controller {
+        data_pages: D,
+        ..flat::Controller::default()
+    }
+}
+
+/// Ready, with no right at all.
+pub fn closed() -> flat::Controller {
+    flat::Controller {
+        phase: flat::PHASE_READY,
+        ..fresh()
+    }
+}
+
+/// Ready, with every right.
+pub fn open() -> flat::Controller {
+    flat::Controller {
+        provision_enabled: 1,
+        default_rights: 7,
+        info_pages: [flat::PageSetting { on: 1, rights: 7 }; flat::INFO_PAGES],
+        bank_erase: [1, 1],
+        ..closed()
+    }
+}
+
+/// Every word tells its own place.
+pub fn image() -> Vec<u32> {
+    (0..model::image_words(D) as u32).collect()
+}
+
+pub fn data(kind: u8, address: u32, count: u32) -> flat::Operation {
+    flat::Operation {
+        address,
+        count,
+        kind,
+        ..flat::Operation::default()
+    }
+}
+
+pub fn info(kind: u8, info_type: u8, address: u32, count: u32) -> flat::Operation {
+    flat::Operation {
+        partition: INFORMATION,
+        info_type,
+        ..data(kind, address, count)
+    }
+}
+
+/// The controller with an operation in progress that has moved some words.
+pub fn with_progress(
+    mut c: flat::Controller,
+    operation: flat::Operation,
+    moved: u32,
+) -> flat::Controller {
+    let read = operation.kind == model::READ;
+    c.progress = flat::Progress {
+        operation,
+        moved,
+        readable: if read { operation.count } else { 0 },
+        running: 1,
+    };
+    c
+}
+
+/// The controller with one field set.
+pub fn with(c: &flat::Controller, field: &str, value: u32) -> flat::Controller {
+    let mut set = *c;
+    fields::named(field).set(&mut set, value);
+    set
+}
+
+/// Exactly these fields differ, with these values in the first.
+pub fn assert_changed(after: &flat::Controller, before: &flat::Controller, list: &[(&str, u32)]) {
+    let changed: Vec<(&str, u32)> = fields::differences(after, before)
+        .into_iter()
+        .map(|(field, value, _)| (field, value))
+        .collect();
+    assert_eq!(changed, list);
+}
+
+/// Every information page: its place among the settings, bank, type and number.
+pub fn info_pages() -> Vec<(usize, u32, u8, u32)> {
+    let mut pages = Vec::new();
+    for bank in 0..2 {
+        for (info_type, number) in INFO_PAGES_OF_TYPE {
+            for page in 0..number {
+                pages.push((pages.len(), bank, info_type, page));
+            }
+        }
+    }
+    pages
+}

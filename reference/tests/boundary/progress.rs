@@ -1,0 +1,230 @@
+//! The operation in progress, the queues and the records, in both directions.
+
+use crate::helpers::*;
+use reference::interface::calls;
+use reference::interface::flat::{self, Controller, Operation};
+use reference::model::{BANK_ERASE, PAGE_ERASE, PROGRAM, READ};
+
+/// Unused fields of the progress, to be overwritten by a start.
+fn with_old_progress(mut c: Controller) -> Controller {
+    c.progress = flat::Progress {
+        operation: Operation {
+            address: 0x1111,
+            count: 0x2222,
+            kind: 0x33,
+            partition: 0x44,
+            info_type: 0x55,
+        },
+        moved: 0x6666,
+        readable: 0x7777,
+        running: 0,
+    };
+    c
+}
+
+#[test]
+fn each_field_of_a_started_operation_is_left_in_progress() {
+    for (operation, readable) in [
+        (data(READ, 0x1234, 0x3FF), 0x3FF),
+        (info(READ, 2, 0x4404, 9), 9),
+        (info(PROGRAM, 1, 0x03C4, 15), 0),
+        (data(PROGRAM, 0x7FFC, 1), 0),
+        (info(PAGE_ERASE, 0, 0x67FC, 0xDEAD_BEEF), 0),
+        (
+            Operation {
+                info_type: 0xEE,
+                ..data(PAGE_ERASE, 0x7C00, 0)
+            },
+            0,
+        ),
+        (info(BANK_ERASE, 0xC3, 0x4008, 0xFFFF_FFFF), 0),
+        (
+            Operation {
+                info_type: 0xEE,
+                ..data(BANK_ERASE, 4, 7)
+            },
+            0,
+        ),
+    ] {
+        for base in [open(), with_old_progress(open())] {
+            let given = calls::start(base, operation);
+            let progress = flat::Progress {
+                operation,
+                moved: 0,
+                readable,
+                running: 1,
+            };
+            assert_eq!(given.answer, 0);
+            assert_eq!(given.controller, Controller { progress, ..base });
+        }
+    }
+}
+
+#[test]
+fn a_denied_read_is_in_progress_with_nothing_readable() {
+    let operation = data(READ, 0x0404, 3);
+    let given = calls::start(with_old_progress(closed()), operation);
+    assert_eq!(given.answer, 9);
+    assert_changed(
+        &given.controller,
+        &closed(),
+        &[
+            ("progress.operation.address", 0x0404),
+            ("progress.operation.count", 3),
+            ("progress.running", 1),
+            ("recorded", 1 << 9),
+            ("last_address", 0x0404),
+        ],
+    );
+    let stepped = calls::step(given.controller, &mut image());
+    assert_eq!(stepped.controller.read_queue.words[0], u32::MAX);
+}
+
+/// The bus word that the next step of a read delivers, which tells its place.
+fn next_read(operation: Operation, moved: u32) -> u32 {
+    let c = with_progress(open(), operation, moved);
+    let given = calls::step(c, &mut image());
+    assert_eq!(given.answer, 0);
+    assert_eq!(given.controller.progress.moved, moved + 1);
+    calls::pop(given.controller).word
+}
+
+/// Each field of an operation in progress alone moves the word that is read.
+#[test]
+fn each_field_of_an_operation_in_progress_is_understood() {
+    assert_eq!(next_read(data(READ, 0x0400, 9), 0), 256);
+    assert_eq!(next_read(data(READ, 0x0404, 9), 0), 257);
+    assert_eq!(next_read(data(READ, 0x0400, 9), 7), 263);
+    assert_eq!(next_read(data(READ, 0x4400, 9), 0), 7_424 + 256);
+    assert_eq!(next_read(info(READ, 0, 0x0400, 9), 0), 4_352);
+    assert_eq!(next_read(info(READ, 1, 0x0000, 9), 0), 26 * 256);
+    assert_eq!(next_read(info(READ, 2, 0x0400, 9), 0), 28 * 256);
+}
+
+/// The last moving step ends the operation, and with it every field of the progress.
+#[test]
+fn count_and_kind_in_progress_decide_the_end() {
+    for (operation, words) in [
+        (data(READ, 0x0400, 9), 9),
+        (data(PAGE_ERASE, 0x0400, 9), 256),
+        (data(BANK_ERASE, 0x0400, 9), 4_096),
+        (info(BANK_ERASE, 9, 0x0400, 9), 7_424),
+    ] {
+        let mut c = with_progress(open(), operation, words - 2);
+        let mut image = image();
+        let given = calls::step(c, &mut image);
+        assert_eq!((given.answer, given.movement), (0, flat::MOVEMENT_MOVED));
+        c = given.controller;
+        let given = calls::step(c, &mut image);
+        assert_eq!((given.answer, given.movement), (0, flat::MOVEMENT_FINISHED));
+        assert_eq!(given.controller.progress, flat::Progress::default());
+    }
+}
+
+/// `readable` of a program or an erase is looked at by no rule.
+#[test]
+fn readable_of_a_program_is_free() {
+    let mut c = with_progress(open(), data(PROGRAM, 0x0400, 4), 0);
+    c.progress.readable = 0xABCD;
+    let given = calls::push(c, 5);
+    assert_eq!(given.answer, 0);
+    assert_eq!(given.controller.progress, c.progress);
+}
+
+#[test]
+fn each_word_of_the_read_queue_is_popped_in_its_turn() {
+    for length in 1..=16 {
+        let mut c = open();
+        c.read_queue.length = length;
+        c.read_queue.words = std::array::from_fn(|i| 0x0100_0000 * (i as u32 + 1) + 9);
+        for i in 0..length {
+            let given = calls::pop(c);
+            assert_eq!((given.answer, given.word), (0, 0x0100_0000 * (i + 1) + 9));
+            assert_eq!(given.controller.read_queue.length, length - 1 - i);
+            c = given.controller;
+        }
+        assert_eq!(calls::pop(c).answer, 10);
+        assert_eq!(c, open());
+    }
+}
+
+#[test]
+fn each_read_word_lands_in_the_next_place_of_the_read_queue() {
+    let mut c = calls::start(open(), data(READ, 0x0400, 20)).controller;
+    let mut image = image();
+    for place in 0..16 {
+        let given = calls::step(c, &mut image);
+        assert_changed(
+            &given.controller,
+            &c,
+            &[
+                ("progress.moved", place + 1),
+                (&format!("read_queue.words[{place}]"), 256 + place),
+                ("read_queue.length", place + 1),
+            ],
+        );
+        c = given.controller;
+    }
+    let waiting = calls::step(c, &mut image);
+    assert_eq!(
+        (waiting.answer, waiting.movement),
+        (0, flat::MOVEMENT_STALLED)
+    );
+    assert_changed(&waiting.controller, &c, &[]);
+}
+
+#[test]
+fn each_pushed_word_lands_in_the_program_queue_and_then_in_flash() {
+    let word = |place: u32| 0xF0F0_0000 | place;
+    let mut c = calls::start(open(), data(PROGRAM, 0x0440, 16)).controller;
+    for place in 0..16 {
+        let given = calls::push(c, word(place));
+        assert_eq!(given.answer, 0);
+        let field = format!("program_queue.words[{place}]");
+        assert_changed(
+            &given.controller,
+            &c,
+            &[(&field, word(place)), ("program_queue.length", place + 1)],
+        );
+        c = given.controller;
+    }
+    let mut flash = vec![u32::MAX; image().len()];
+    for place in 0..16 {
+        let given = calls::step(c, &mut flash);
+        assert_eq!(given.answer, 0);
+        assert_eq!(given.bits, word(place).count_zeros());
+        assert_eq!(flash[272 + place as usize], word(place));
+        assert_eq!(given.controller.program_queue.length, 15 - place);
+        c = given.controller;
+    }
+    assert_eq!(c, open());
+    assert_eq!(flash.iter().filter(|word| **word != u32::MAX).count(), 16);
+}
+
+#[test]
+fn each_recorded_kind_has_its_bit_and_its_address() {
+    let mut c = with(&open(), "default_rights", 5);
+    let mut kinds = 0;
+    for (operation, answer) in [
+        (data(77, 0x11, 1), 5),
+        (data(READ, 0x8000, 1), 7),
+        (data(PROGRAM, 0x3C, 2), 8),
+        (data(PROGRAM, 0x40, 1), 9),
+    ] {
+        let given = calls::start(c, operation);
+        kinds |= 1 << answer;
+        assert_eq!(given.answer, answer);
+        assert_changed(
+            &given.controller,
+            &c,
+            &[("recorded", kinds), ("last_address", operation.address)],
+        );
+        c = given.controller;
+    }
+    let cleared = calls::clear_errors(c);
+    assert_changed(
+        &cleared.controller,
+        &c,
+        &[("recorded", 0), ("last_address", 0)],
+    );
+}

@@ -1,0 +1,267 @@
+//! Arguments of calls: mostly sensible and near a border, sometimes nonsense.
+
+use crate::dice::Dice;
+use reference::interface::flat;
+use reference::model::{self, Controller};
+
+/// Draws arguments that suit a state.
+pub struct Arguments<'a> {
+    pub dice: &'a mut Dice,
+    pub state: &'a Controller,
+}
+
+impl Arguments<'_> {
+    /// D, also of a broken state.
+    fn data_pages(&self) -> u32 {
+        self.state.data_pages.clamp(1, 0x10_0000)
+    }
+
+    // -- settings ------------------------------------------------------------
+
+    /// A flag argument is true at any other number than 0.
+    pub fn flag(&mut self) -> u8 {
+        self.dice.pick(&[0, 0, 0, 1, 1, 1, 2, 255])
+    }
+
+    /// Often all rights or all but one.
+    pub fn rights(&mut self) -> u8 {
+        match self.dice.below(20) {
+            0 => self.dice.pick(&[8, 9, 15, 128, 255]),
+            1..=6 => 7,
+            7..=9 => 7 ^ self.dice.pick(&[1, 2, 4]),
+            _ => self.dice.below(8) as u8,
+        }
+    }
+
+    pub fn region_number(&mut self) -> u32 {
+        match self.dice.below(16) {
+            0 => self.dice.pick(&[8, 9, 16, 256, u32::MAX]),
+            _ => self.dice.below(8),
+        }
+    }
+
+    /// Overlapping regions of any length, often ending or beginning at a border.
+    pub fn region(&mut self) -> flat::Region {
+        let pages = 2 * self.data_pages();
+        let first_page = match self.dice.below(4) {
+            0 => self.border_page(),
+            _ => self.dice.below(pages + 1),
+        };
+        let room = pages.saturating_sub(first_page);
+        let page_count = match self.dice.below(12) {
+            0 => room,
+            1 => room + 1,
+            2 => self.dice.pick(&[0, u32::MAX, first_page.wrapping_neg()]),
+            3..=7 => room.min(self.dice.between(1, 4)),
+            _ => self.dice.below(room + 1),
+        };
+        flat::Region {
+            first_page,
+            page_count,
+            on: self.flag(),
+            rights: self.rights(),
+        }
+    }
+
+    pub fn info_setting(&mut self) -> flat::PageSetting {
+        flat::PageSetting {
+            on: self.flag(),
+            rights: self.rights(),
+        }
+    }
+
+    pub fn bank(&mut self) -> u32 {
+        match self.dice.below(16) {
+            0 => self.dice.pick(&[2, 3, u32::MAX]),
+            _ => self.dice.below(2),
+        }
+    }
+
+    pub fn info_type(&mut self) -> u8 {
+        match self.dice.below(24) {
+            0 => self.dice.pick(&[3, 4, 255]),
+            1..=5 => 1,
+            6..=11 => 2,
+            _ => 0,
+        }
+    }
+
+    /// A page number in a type: also the first past its last.
+    pub fn page_of_type(&mut self, info_type: u8) -> u32 {
+        let pages = pages_of_type(info_type);
+        match self.dice.below(16) {
+            0 => pages,
+            1 => self.dice.pick(&[pages + 1, 13, u32::MAX]),
+            _ => self.dice.below(pages),
+        }
+    }
+
+    // -- pages and addresses -------------------------------------------------
+
+    /// A data page: of a region's or bank's border, else any; rarely past the last.
+    pub fn data_page(&mut self) -> u32 {
+        match self.dice.below(10) {
+            0..=3 => self.border_page(),
+            4 => 2 * self.data_pages(),
+            _ => self.dice.below(2 * self.data_pages()),
+        }
+    }
+
+    fn border_page(&mut self) -> u32 {
+        let d = self.data_pages();
+        let region = self.state.regions[self.dice.below(8) as usize];
+        let end = region.first_page.saturating_add(region.page_count);
+        let border = self.dice.pick(&[
+            0,
+            1,
+            d - 1,
+            d,
+            2 * d - 1,
+            region.first_page,
+            region.first_page.saturating_sub(1),
+            end,
+            end.saturating_sub(1),
+        ]);
+        border.min(2 * d)
+    }
+
+    /// A page of the address space that holds information pages of a type, or is next to them.
+    fn info_page(&mut self, info_type: u8) -> u32 {
+        let bank = self.dice.below(2) * self.data_pages();
+        let page = match self.dice.below(8) {
+            0 => self.data_pages() - 1,
+            1 => self.dice.below(self.data_pages()),
+            2 => pages_of_type(info_type) - 1,
+            _ => self.page_of_type(info_type).min(self.data_pages()),
+        };
+        bank + page
+    }
+
+    /// The offset of a word in its page, often beside the end of a window or of the page.
+    fn offset(&mut self) -> u32 {
+        let window = 64 * self.dice.below(16);
+        match self.dice.below(6) {
+            0 => 0,
+            1 => 1024 - 4 * self.dice.between(1, 4),
+            2 => window,
+            3 => window + 64 - 4 * self.dice.between(1, 3),
+            _ => 4 * self.dice.below(256),
+        }
+    }
+
+    /// Rarely spoiled: unaligned, or far outside.
+    fn address(&mut self, page: u32) -> u32 {
+        let address = page.saturating_mul(1024).saturating_add(self.offset());
+        match self.dice.below(40) {
+            0 => address | self.dice.between(1, 3),
+            1 => self.dice.word(),
+            2 => u32::MAX - self.dice.below(8),
+            3 => u32::MAX - 4 * self.dice.below(300) - 3,
+            _ => address,
+        }
+    }
+
+    pub fn host_address(&mut self) -> u32 {
+        let page = self.data_page();
+        self.address(page)
+    }
+
+    pub fn view_page(&mut self) -> u32 {
+        match self.dice.below(16) {
+            0 => self.dice.pick(&[u32::MAX, 1 << 22, 1 << 30, 4096, 513]),
+            _ => self.data_page(),
+        }
+    }
+
+    // -- operations ----------------------------------------------------------
+
+    pub fn operation(&mut self) -> flat::Operation {
+        let kind = match self.dice.weighted(&[36, 36, 16, 8, 3]) {
+            4 => self.dice.pick(&[4, 5, 9, 128, 255]),
+            known => known as u8,
+        };
+        let partition = match self.dice.weighted(&[58, 40, 2]) {
+            2 => self.dice.pick(&[2, 3, 255]),
+            known => known as u8,
+        };
+        let info_type = self.info_type();
+        let page = match partition {
+            model::INFORMATION => self.info_page(info_type),
+            _ => self.data_page(),
+        };
+        let address = self.address(page);
+        flat::Operation {
+            address,
+            count: self.count(kind, address),
+            kind,
+            partition,
+            info_type,
+        }
+    }
+
+    fn count(&mut self, kind: u8, address: u32) -> u32 {
+        if self.dice.percent(4) {
+            return self.dice.pick(&[
+                0,
+                1025,
+                2048,
+                u32::MAX,
+                1 << 30,
+                (1 << 30) + 1,
+                1 << 16,
+                0x1_0001,
+            ]);
+        }
+        match kind {
+            model::READ => self.read_count(address),
+            model::PROGRAM => self.program_count(address),
+            _ => self.dice.word(),
+        }
+    }
+
+    /// Long reads are rare: the second program judges each of their words at each call.
+    fn read_count(&mut self, address: u32) -> u32 {
+        let to_page_end = 256 - address / 4 % 256;
+        match self.dice.weighted(&[50, 20, 24, 4, 2]) {
+            0 => self.dice.between(1, 20),
+            1 => self.dice.pick(&[15, 16, 17, 32, 33]),
+            2 => to_page_end.min(40) + self.dice.below(2),
+            3 => to_page_end + self.dice.below(3) * 256,
+            _ => self.dice.pick(&[1024, 1023, 512, 768, 769]),
+        }
+    }
+
+    /// Mostly up to its window's end, sometimes one past it.
+    fn program_count(&mut self, address: u32) -> u32 {
+        let to_window_end = 16 - address / 4 % 16;
+        match self.dice.below(16) {
+            0 => to_window_end + 1,
+            1 => self.dice.between(1, 40),
+            2 => self.dice.pick(&[1024, 1023, 256, 17]),
+            3..=8 => to_window_end,
+            _ => self.dice.between(1, to_window_end),
+        }
+    }
+
+    /// Long enough in most cases; else too short by one or more, or none at all.
+    pub fn buffer_words(&mut self, operation: &flat::Operation) -> usize {
+        let count = operation.count.min(1025);
+        let words = match self.dice.below(12) {
+            0 => count.saturating_sub(1),
+            1 => 0,
+            2 => self.dice.below(count + 1),
+            3..=6 => count,
+            _ => count + self.dice.between(1, 15),
+        };
+        words as usize
+    }
+}
+
+/// A type that is none has no pages; one stands for it, so that numbers can be drawn.
+fn pages_of_type(info_type: u8) -> u32 {
+    match info_type {
+        0 => 10,
+        2 => 2,
+        _ => 1,
+    }
+}

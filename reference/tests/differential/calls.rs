@@ -1,0 +1,393 @@
+//! The calls of document 01 with their arguments, made on the proved model
+//! through its C interface and on the second program.
+
+use crate::dice::Dice;
+use reference::interface::{calls as library, flat};
+use reference::model::{self, Controller, InfoSetting, Progress, Region, NOT_OURS};
+use std::ops::Range;
+
+/// Image lengths are in bus words; a buffer holds what its seed gives before the call.
+#[derive(Clone, Debug)]
+pub enum Call {
+    Reset {
+        data_pages: u32,
+    },
+    SetInputs {
+        provision_enabled: u8,
+        seeds_locked: u8,
+    },
+    SetRegion {
+        number: u32,
+        region: flat::Region,
+    },
+    SetDefaultRights {
+        rights: u8,
+    },
+    SetInfoPage {
+        bank: u32,
+        info_type: u8,
+        page: u32,
+        setting: flat::PageSetting,
+    },
+    SetBankErase {
+        bank: u32,
+        on: u8,
+    },
+    ClearErrors,
+    Initialise {
+        image_words: usize,
+    },
+    Start {
+        operation: flat::Operation,
+    },
+    Step {
+        image_words: usize,
+    },
+    Push {
+        word: u32,
+    },
+    Pop,
+    Run {
+        operation: flat::Operation,
+        image_words: usize,
+        buffer_words: usize,
+        buffer_seed: u64,
+    },
+    HostRead {
+        address: u32,
+        image_words: usize,
+    },
+    View {
+        page: u32,
+        image_words: usize,
+    },
+    Rma {
+        image_words: usize,
+    },
+}
+
+impl Call {
+    /// The operation that the call asks for, whole or in parts.
+    pub fn operation(&self) -> Option<flat::Operation> {
+        match self {
+            Call::Start { operation } | Call::Run { operation, .. } => Some(*operation),
+            _ => None,
+        }
+    }
+}
+
+/// The lent memory of one program.
+#[derive(Clone, PartialEq, Eq)]
+pub struct Memory {
+    pub image: Vec<u32>,
+    pub buffer: Vec<u32>,
+}
+
+impl Memory {
+    fn image(&mut self, words: usize) -> &mut [u32] {
+        let words = words.min(self.image.len());
+        &mut self.image[..words]
+    }
+
+    /// The image and the buffer of a whole operation, the buffer newly filled.
+    fn lend(
+        &mut self,
+        image_words: usize,
+        buffer_words: usize,
+        buffer_seed: u64,
+    ) -> (&mut [u32], &mut [u32]) {
+        self.buffer = Dice::new(buffer_seed).flash_words(self.buffer.len());
+        let image_words = image_words.min(self.image.len());
+        let buffer_words = buffer_words.min(self.buffer.len());
+        (
+            &mut self.image[..image_words],
+            &mut self.buffer[..buffer_words],
+        )
+    }
+}
+
+/// The answer number and all values of a call; what it does not give is 0.
+#[derive(Clone, Debug, Default, PartialEq, Eq)]
+pub struct Outcome {
+    pub answer: u32,
+    pub word: u32,
+    pub bits: u32,
+    pub movement: u32,
+    pub seeds: flat::Seeds,
+    /// The words of the image that a view shows.
+    pub view: Range<usize>,
+}
+
+impl Outcome {
+    pub fn answer(answer: u8) -> Self {
+        Outcome {
+            answer: answer.into(),
+            ..Outcome::default()
+        }
+    }
+
+    /// The answer, and the values that are not 0.
+    pub fn shown(&self) -> String {
+        let mut text = format!("answer {}", self.answer);
+        for (name, value) in [
+            ("word", self.word),
+            ("bits", self.bits),
+            ("movement", self.movement),
+        ] {
+            if value != 0 {
+                text += &format!(", {name} {value:#x}");
+            }
+        }
+        if self.seeds != flat::Seeds::default() {
+            text += &format!(", {:?}", self.seeds);
+        }
+        if self.view != (0..0) {
+            text += &format!(", view {:?}", self.view);
+        }
+        text
+    }
+}
+
+pub fn on_model(call: &Call, c: &mut flat::Controller, memory: &mut Memory) -> Outcome {
+    let plain = match *call {
+        Call::Reset { data_pages } => library::reset(*c, data_pages),
+        Call::SetInputs {
+            provision_enabled,
+            seeds_locked,
+        } => library::set_inputs(*c, provision_enabled, seeds_locked),
+        Call::SetRegion { number, region } => library::set_region(*c, number, region),
+        Call::SetDefaultRights { rights } => library::set_default_rights(*c, rights),
+        Call::SetInfoPage {
+            bank,
+            info_type,
+            page,
+            setting,
+        } => library::set_info_page(*c, bank, info_type, page, setting),
+        Call::SetBankErase { bank, on } => library::set_bank_erase(*c, bank, on),
+        Call::ClearErrors => library::clear_errors(*c),
+        Call::Start { operation } => library::start(*c, operation),
+        Call::Push { word } => library::push(*c, word),
+        Call::Rma { image_words } => library::rma(*c, memory.image(image_words)),
+        _ => return on_model_with_values(call, c, memory),
+    };
+    *c = plain.controller;
+    Outcome {
+        answer: plain.answer,
+        ..Outcome::default()
+    }
+}
+
+/// The calls that hand out more than their answer.
+fn on_model_with_values(call: &Call, c: &mut flat::Controller, memory: &mut Memory) -> Outcome {
+    match *call {
+        Call::Initialise { image_words } => {
+            let given = library::initialise(*c, memory.image(image_words));
+            *c = given.controller;
+            Outcome {
+                answer: given.answer,
+                seeds: given.seeds,
+                ..Outcome::default()
+            }
+        }
+        Call::Step { image_words } => {
+            let given = library::step(*c, memory.image(image_words));
+            *c = given.controller;
+            Outcome {
+                answer: given.answer,
+                movement: given.movement,
+                bits: given.bits,
+                ..Outcome::default()
+            }
+        }
+        Call::Run {
+            operation,
+            image_words,
+            buffer_words,
+            buffer_seed,
+        } => {
+            let (image, buffer) = memory.lend(image_words, buffer_words, buffer_seed);
+            let given = library::run(*c, image, operation, buffer);
+            *c = given.controller;
+            Outcome {
+                answer: given.answer,
+                bits: given.bits,
+                ..Outcome::default()
+            }
+        }
+        Call::Pop => fetched(c, library::pop(*c)),
+        Call::HostRead {
+            address,
+            image_words,
+        } => fetched(
+            c,
+            library::host_read(*c, memory.image(image_words), address),
+        ),
+        Call::View { page, image_words } => {
+            viewed(library::view(*c, memory.image(image_words), page))
+        }
+        _ => unreachable!("it hands out its answer alone"),
+    }
+}
+
+fn fetched(c: &mut flat::Controller, given: flat::Fetched) -> Outcome {
+    *c = given.controller;
+    Outcome {
+        answer: given.answer,
+        word: given.word,
+        ..Outcome::default()
+    }
+}
+
+/// Refused, the view is empty.
+fn viewed(given: flat::Viewed) -> Outcome {
+    let start = given.start as usize;
+    let length = if given.answer == 0 { 256 } else { 0 };
+    Outcome {
+        answer: given.answer,
+        view: start..start + length,
+        ..Outcome::default()
+    }
+}
+
+/// None is a state that encodes nothing: only reset takes it.
+pub fn on_second(call: &Call, state: &mut Option<Controller>, memory: &mut Memory) -> Outcome {
+    if let Call::Reset { data_pages } = *call {
+        return reset_any(state, data_pages);
+    }
+    let Some(c) = state else {
+        refill(call, memory);
+        return Outcome::answer(NOT_OURS);
+    };
+    match *call {
+        Call::SetInputs {
+            provision_enabled,
+            seeds_locked,
+        } => Outcome::answer(model::set_inputs(
+            c,
+            provision_enabled != 0,
+            seeds_locked != 0,
+        )),
+        Call::SetRegion { number, region } => {
+            Outcome::answer(model::set_region(c, number, asked_region(region)))
+        }
+        Call::SetDefaultRights { rights } => Outcome::answer(model::set_default_rights(c, rights)),
+        Call::SetInfoPage {
+            bank,
+            info_type,
+            page,
+            setting,
+        } => Outcome::answer(model::set_info_page(
+            c,
+            bank,
+            info_type,
+            page,
+            asked_setting(setting),
+        )),
+        Call::SetBankErase { bank, on } => {
+            Outcome::answer(model::set_bank_erase_permission(c, bank, on != 0))
+        }
+        Call::ClearErrors => Outcome::answer(model::clear(c)),
+        Call::Start { operation } => Outcome::answer(model::start(c, operation.into())),
+        Call::Push { word } => Outcome::answer(model::push(c, word)),
+        Call::Rma { image_words } => Outcome::answer(model::rma(c, memory.image(image_words))),
+        _ => on_second_with_values(call, c, memory),
+    }
+}
+
+fn on_second_with_values(call: &Call, c: &mut Controller, memory: &mut Memory) -> Outcome {
+    match *call {
+        Call::Initialise { image_words } => seeded(model::initialise(c, memory.image(image_words))),
+        Call::Step { image_words } => stepped(model::step(c, memory.image(image_words))),
+        Call::Run {
+            operation,
+            image_words,
+            buffer_words,
+            buffer_seed,
+        } => {
+            let (image, buffer) = memory.lend(image_words, buffer_words, buffer_seed);
+            let given = model::whole(c, operation.into(), image, buffer);
+            Outcome {
+                bits: given.bits,
+                ..Outcome::answer(given.refusal)
+            }
+        }
+        Call::Pop => word_given(model::pop(c)),
+        Call::HostRead {
+            address,
+            image_words,
+        } => word_given(model::host_read(c, memory.image(image_words), address)),
+        Call::View { page, image_words } => {
+            let given = model::view(c, memory.image(image_words), page);
+            Outcome {
+                view: given.start..given.start + given.length,
+                ..Outcome::answer(given.refusal)
+            }
+        }
+        _ => unreachable!("it hands out its answer alone"),
+    }
+}
+
+/// Reset takes any state, also one that encodes nothing.
+fn reset_any(state: &mut Option<Controller>, data_pages: u32) -> Outcome {
+    let mut c = state.clone().unwrap_or_default();
+    let answer = model::reset(&mut c, data_pages);
+    if answer == model::NONE {
+        *state = Some(c);
+    }
+    Outcome::answer(answer)
+}
+
+/// The buffer is filled before the call, whatever the call answers.
+fn refill(call: &Call, memory: &mut Memory) {
+    if let Call::Run { buffer_seed, .. } = *call {
+        memory.lend(0, 0, buffer_seed);
+    }
+}
+
+fn seeded(given: model::Initialised) -> Outcome {
+    Outcome {
+        seeds: flat::Seeds {
+            creator: given.creator_seed,
+            owner: given.owner_seed,
+            given: given.seeds_given.into(),
+        },
+        ..Outcome::answer(given.refusal)
+    }
+}
+
+fn stepped(given: model::Stepped) -> Outcome {
+    Outcome {
+        movement: match given.progress {
+            None => flat::MOVEMENT_NONE,
+            Some(Progress::Moved) => flat::MOVEMENT_MOVED,
+            Some(Progress::Finished) => flat::MOVEMENT_FINISHED,
+            Some(Progress::Waiting) => flat::MOVEMENT_STALLED,
+        },
+        bits: given.bits,
+        ..Outcome::answer(given.refusal)
+    }
+}
+
+fn word_given(given: model::WordGiven) -> Outcome {
+    Outcome {
+        word: given.word,
+        ..Outcome::answer(given.refusal)
+    }
+}
+
+/// A flag argument is false at 0 and true otherwise.
+fn asked_region(region: flat::Region) -> Region {
+    Region {
+        on: region.on != 0,
+        first_page: region.first_page,
+        page_count: region.page_count,
+        rights: region.rights,
+    }
+}
+
+fn asked_setting(setting: flat::PageSetting) -> InfoSetting {
+    InfoSetting {
+        on: setting.on != 0,
+        rights: setting.rights,
+    }
+}

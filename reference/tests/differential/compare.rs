@@ -1,0 +1,212 @@
+//! What must be alike after a call: the answer and its values, the state, and
+//! the lent memory.
+
+use crate::calls::{Call, Memory, Outcome};
+use crate::table;
+use reference::interface::{fields, flat, from_reference, to_reference};
+use reference::model::{self, Controller};
+use std::ops::Range;
+
+/// Why the two programs, or the model and 01, do not agree.
+pub type Compared = Result<(), String>;
+
+pub fn outcomes(call: &Call, model: &Outcome, second: &Outcome) -> Compared {
+    if model != second {
+        return Err(format!(
+            "the model gives {}, the second program {}",
+            model.shown(),
+            second.shown()
+        ));
+    }
+    match table::broken_rule(call, model.answer) {
+        Some(rule) => Err(rule),
+        None => Ok(()),
+    }
+}
+
+/// The state that the model leaves: field for field what 01 leaves, and the
+/// second program's.
+pub fn states(
+    call: &Call,
+    answer: u32,
+    before: &flat::Controller,
+    after: &flat::Controller,
+    second: &Option<Controller>,
+) -> Compared {
+    let left = left_by(call, answer, before, second);
+    let compared = without_free_places(call, answer, before, after, &left);
+    if compared != left {
+        return Err(differences(&compared, &left));
+    }
+    let (model, second) = (comparable(&to_reference(after)), comparable(second));
+    if model != second {
+        return Err(told(&model, &second));
+    }
+    Ok(())
+}
+
+/// The flat twin of a state, its queues as lists; None encodes nothing.
+fn comparable(state: &Option<Controller>) -> Option<flat::Controller> {
+    state.as_ref().map(|c| from_reference(&as_lists(c)))
+}
+
+fn told(model: &Option<flat::Controller>, second: &Option<flat::Controller>) -> String {
+    match (model, second) {
+        (Some(model), Some(second)) => differences(model, second),
+        _ => "one leaves a state that encodes nothing, the other does not".to_owned(),
+    }
+}
+
+fn differences(model: &flat::Controller, expected: &flat::Controller) -> String {
+    let told = fields::differences(model, expected)
+        .into_iter()
+        .map(|(field, model, other)| format!("{field} is {model:#x} and should be {other:#x}"));
+    told.collect::<Vec<_>>().join(", ")
+}
+
+/// The flat controller that a call leaves, from the one before it and, where
+/// the call changes it, from the second program's.
+fn left_by(
+    call: &Call,
+    answer: u32,
+    before: &flat::Controller,
+    second: &Option<Controller>,
+) -> flat::Controller {
+    if !changes_state(call, answer) {
+        return *before;
+    }
+    if answer != 0 && !starts_blank(call, answer) {
+        return recorded(call, answer, before);
+    }
+    let second = second.as_ref().expect("an accepted call leaves a state");
+    let mut left = from_reference(second);
+    if !starts_or_ends(call, before, &left) {
+        keep_unused_progress(before, &mut left);
+    }
+    left
+}
+
+/// Accepted, or recorded: every other refusal leaves all unchanged.
+fn changes_state(call: &Call, answer: u32) -> bool {
+    let recorded = call.operation().is_some() && is_recorded(answer);
+    answer == 0 || recorded
+}
+
+fn is_recorded(answer: u32) -> bool {
+    [
+        model::MALFORMED,
+        model::OUTSIDE,
+        model::WINDOW,
+        model::DENIED,
+    ]
+    .map(u32::from)
+    .contains(&answer)
+}
+
+/// A denied read still starts, blank.
+fn starts_blank(call: &Call, answer: u32) -> bool {
+    let read = call.operation().is_some_and(|o| o.kind == model::READ);
+    read && answer == u32::from(model::DENIED)
+}
+
+/// The kind joins the recorded ones, the address becomes the last one, nothing else changes.
+fn recorded(call: &Call, answer: u32, before: &flat::Controller) -> flat::Controller {
+    let operation = call.operation().expect("only operations are recorded");
+    flat::Controller {
+        recorded: before.recorded | 1 << answer,
+        last_address: operation.address,
+        ..*before
+    }
+}
+
+/// A whole operation starts and ends within its call: `running` is 0 before and after, and the rest stays as given.
+fn starts_or_ends(call: &Call, before: &flat::Controller, left: &flat::Controller) -> bool {
+    matches!(call, Call::Reset { .. }) || before.progress.running != left.progress.running
+}
+
+/// No rule looks at these, so they stay as given.
+fn keep_unused_progress(before: &flat::Controller, left: &mut flat::Controller) {
+    if left.progress.running == 0 {
+        left.progress = before.progress;
+    } else if left.progress.operation.kind != model::READ {
+        left.progress.readable = before.progress.readable;
+    }
+}
+
+/// After an accepted call, a queue's places past its length are no part of an
+/// unchanged queue; those of a changed one are zeros.
+fn without_free_places(
+    call: &Call,
+    answer: u32,
+    before: &flat::Controller,
+    after: &flat::Controller,
+    left: &flat::Controller,
+) -> flat::Controller {
+    let mut compared = *after;
+    if answer == 0 || starts_blank(call, answer) {
+        free_places(
+            &before.read_queue,
+            &mut compared.read_queue,
+            &left.read_queue,
+        );
+        free_places(
+            &before.program_queue,
+            &mut compared.program_queue,
+            &left.program_queue,
+        );
+    }
+    compared
+}
+
+fn free_places(before: &flat::Queue, after: &mut flat::Queue, left: &flat::Queue) {
+    if held(before) == held(after) {
+        let first = held(after).len();
+        after.words[first..].copy_from_slice(&left.words[first..]);
+    }
+}
+
+/// The words that a queue holds.
+fn held(queue: &flat::Queue) -> &[u32] {
+    let length = queue.words.len().min(queue.length as usize);
+    &queue.words[..length]
+}
+
+/// The state with its queues as lists.
+fn as_lists(c: &Controller) -> Controller {
+    let mut c = c.clone();
+    for queue in [&mut c.read_queue, &mut c.program_queue] {
+        let first = queue.words.len().min(queue.length as usize);
+        queue.words[first..].fill(0);
+    }
+    c
+}
+
+/// The image and the buffer, whole.
+pub fn memories(model: &Memory, second: &Memory) -> Compared {
+    words("image", &model.image, &second.image, 0)?;
+    words("buffer", &model.buffer, &second.buffer, 0)
+}
+
+/// A part of the image.
+pub fn part(model: &Memory, second: &Memory, range: Range<usize>) -> Compared {
+    let start = range.start;
+    words(
+        "image",
+        &model.image[range.clone()],
+        &second.image[range],
+        start,
+    )
+}
+
+fn words(what: &str, model: &[u32], second: &[u32], start: usize) -> Compared {
+    if model == second {
+        return Ok(());
+    }
+    let differs = model.iter().zip(second).position(|(a, b)| a != b);
+    let place = differs.expect("both have one length");
+    let (model, second) = (model[place], second[place]);
+    Err(format!(
+        "{what} word {}: the model has {model:#010x}, the second program {second:#010x}",
+        start + place
+    ))
+}

@@ -1,0 +1,273 @@
+//! Demand 3: two lists of whole operations that keep out of each other's pages
+//! may be shuffled in any way that keeps each list's order.
+
+mod footprint;
+mod trials;
+
+use footprint::{footprint, keep_apart, Footprint};
+use reference::interface::{calls as library, fields, flat, from_reference, to_reference};
+use reference::model::{self, Controller};
+
+pub use trials::trials;
+
+const PAGE_WORDS: usize = 256;
+
+#[derive(Clone, Copy, Debug, PartialEq, Eq)]
+enum List {
+    Left,
+    Right,
+}
+
+/// A whole operation of one list, with its own buffer.
+#[derive(Clone, Debug)]
+struct Item {
+    list: List,
+    operation: flat::Operation,
+    buffer: Vec<u32>,
+}
+
+/// Where the shuffle and each list alone begin.
+#[derive(Clone)]
+struct Beginning {
+    controller: flat::Controller,
+    image: Vec<u32>,
+}
+
+/// What an operation gives: its answer, its bit count and its whole buffer.
+#[derive(Clone, Debug, PartialEq, Eq)]
+struct Given {
+    answer: u32,
+    bits: u32,
+    buffer: Vec<u32>,
+}
+
+/// What a program leaves after some operations.
+struct Ended {
+    given: Vec<Given>,
+    image: Vec<u32>,
+    controller: flat::Controller,
+}
+
+// -- the claim -----------------------------------------------------------
+
+/// None if the premise does not hold; else whether both lists wrote, or how the claim fails.
+fn claim(beginning: &Beginning, shuffle: &[Item]) -> Option<Result<bool, String>> {
+    let [left, right] = [List::Left, List::Right].map(|list| of(shuffle, list));
+    let alone = [&left, &right].map(|items| on_second(beginning, items));
+    let data_pages = beginning.controller.data_pages;
+    let feet = [
+        footprint(data_pages, &left, &alone[0]),
+        footprint(data_pages, &right, &alone[1]),
+    ];
+    if !keep_apart(&feet[0], &feet[1]) {
+        return None;
+    }
+    let wrote = feet.iter().all(|foot| !foot.written.is_empty());
+    let shuffled = on_model(beginning, shuffle);
+    let holds = check_alone(beginning, &left, &alone[0])
+        .and_then(|()| check_alone(beginning, &right, &alone[1]))
+        .and_then(|()| check_given(shuffle, &shuffled, &alone))
+        .and_then(|()| check_end(beginning, &shuffled, &alone, &feet));
+    Some(holds.map(|()| wrote))
+}
+
+fn of(shuffle: &[Item], list: List) -> Vec<Item> {
+    let own = shuffle.iter().filter(|item| item.list == list);
+    own.cloned().collect()
+}
+
+/// A list alone is run by both programs.
+fn check_alone(beginning: &Beginning, items: &[Item], second: &Ended) -> Result<(), String> {
+    let model = on_model(beginning, items);
+    let alike = model.given == second.given
+        && model.image == second.image
+        && model.controller.recorded == second.controller.recorded;
+    require(alike, || {
+        "a list alone: the two programs disagree".to_owned()
+    })
+}
+
+/// Each operation gives in the shuffle what it gives when its own list runs alone.
+fn check_given(shuffle: &[Item], shuffled: &Ended, alone: &[Ended; 2]) -> Result<(), String> {
+    let mut own = alone.each_ref().map(|ended| ended.given.iter());
+    for (place, (item, given)) in shuffle.iter().zip(&shuffled.given).enumerate() {
+        let expected = own[item.list as usize].next();
+        require(expected == Some(given), || {
+            format!("operation {place} gives {given:?}, alone {expected:?}")
+        })?;
+    }
+    Ok(())
+}
+
+/// A written page ends as its list alone leaves it, every other page as it
+/// began, and the recorded kinds are the union.
+fn check_end(
+    beginning: &Beginning,
+    shuffled: &Ended,
+    alone: &[Ended; 2],
+    feet: &[Footprint; 2],
+) -> Result<(), String> {
+    let mut image = beginning.image.clone();
+    for (ended, foot) in alone.iter().zip(feet) {
+        for page in &foot.written {
+            let words = page * PAGE_WORDS..(page + 1) * PAGE_WORDS;
+            image[words.clone()].copy_from_slice(&ended.image[words]);
+        }
+    }
+    require(shuffled.image == image, || "the flash differs".to_owned())?;
+    let union = alone[0].controller.recorded | alone[1].controller.recorded;
+    let recorded = shuffled.controller.recorded;
+    require(recorded == union, || {
+        format!("recorded kinds {recorded:#x}, not {union:#x}")
+    })?;
+    let changed = fields::differences(
+        &without_record(shuffled.controller),
+        &without_record(beginning.controller),
+    );
+    require(changed.is_empty(), || {
+        format!("fields changed: {changed:?}")
+    })
+}
+
+/// Whole operations leave a controller as it was, but for its record.
+fn without_record(c: flat::Controller) -> flat::Controller {
+    flat::Controller {
+        recorded: 0,
+        last_address: 0,
+        ..c
+    }
+}
+
+fn require(holds: bool, why: impl FnOnce() -> String) -> Result<(), String> {
+    if holds {
+        Ok(())
+    } else {
+        Err(why())
+    }
+}
+
+// -- the two programs ----------------------------------------------------
+
+fn on_model(beginning: &Beginning, items: &[Item]) -> Ended {
+    let Beginning {
+        controller: mut c,
+        mut image,
+    } = beginning.clone();
+    let mut run = |item: &Item| {
+        let mut buffer = item.buffer.clone();
+        let done = library::run(c, &mut image, item.operation, &mut buffer);
+        c = done.controller;
+        Given {
+            answer: done.answer,
+            bits: done.bits,
+            buffer,
+        }
+    };
+    let given = items.iter().map(&mut run).collect();
+    Ended {
+        given,
+        controller: c,
+        image,
+    }
+}
+
+fn on_second(beginning: &Beginning, items: &[Item]) -> Ended {
+    let mut c = to_reference(&beginning.controller).expect("a beginning encodes a state");
+    let mut image = beginning.image.clone();
+    let mut run = |item: &Item| {
+        let mut buffer = item.buffer.clone();
+        let done = model::whole(&mut c, item.operation.into(), &mut image, &mut buffer);
+        Given {
+            answer: done.refusal.into(),
+            bits: done.bits,
+            buffer,
+        }
+    };
+    let given = items.iter().map(&mut run).collect();
+    Ended {
+        given,
+        controller: from_reference(&c),
+        image,
+    }
+}
+
+// -- the claim's own tests -------------------------------------------------
+
+fn item(list: List, kind: u8, address: u32) -> Item {
+    let operation = flat::Operation {
+        address,
+        count: 1,
+        kind,
+        ..flat::Operation::default()
+    };
+    Item {
+        list,
+        operation,
+        buffer: vec![0x0F0F_0F0F],
+    }
+}
+
+fn erased_with_all_rights() -> Beginning {
+    let c = Controller {
+        data_pages: 10,
+        phase: model::Phase::Ready,
+        default_rights: 7,
+        bank_erase_permissions: [true, true],
+        ..Controller::default()
+    };
+    Beginning {
+        controller: from_reference(&c),
+        image: vec![u32::MAX; model::image_words(10) as usize],
+    }
+}
+
+/// Two readers may share a page; a writer shares with nobody, over its whole erase.
+#[test]
+fn the_premise_is_about_the_pages_that_are_written() {
+    let holds = |left: (u8, u32), right: (u8, u32)| {
+        let shuffle = [
+            item(List::Left, left.0, left.1),
+            item(List::Right, right.0, right.1),
+        ];
+        claim(&erased_with_all_rights(), &shuffle).is_some()
+    };
+    assert!(holds((model::READ, 0x400), (model::READ, 0x404)));
+    assert!(holds((model::PROGRAM, 0x400), (model::PROGRAM, 0x800)));
+    assert!(!holds((model::PROGRAM, 0x400), (model::PROGRAM, 0x7FC)));
+    assert!(!holds((model::PAGE_ERASE, 0x400), (model::READ, 0x7FC)));
+    assert!(!holds((model::READ, 0x2400), (model::BANK_ERASE, 0)));
+    assert!(holds((model::READ, 0x2800), (model::BANK_ERASE, 0)));
+    // An operation that is refused touches no page.
+    assert!(holds((model::PROGRAM, 0x400), (model::PROGRAM, 0x7FD)));
+}
+
+/// A shuffle that gives, leaves or records anything else does not pass.
+#[test]
+fn a_wrong_end_is_told() {
+    let beginning = erased_with_all_rights();
+    let shuffle = [
+        item(List::Left, model::PROGRAM, 0x400),
+        item(List::Right, model::PROGRAM, 0x800),
+        item(List::Left, 9, 0),
+    ];
+    let [left, right] = [List::Left, List::Right].map(|list| of(&shuffle, list));
+    let alone = [&left, &right].map(|items| on_second(&beginning, items));
+    let feet = [
+        footprint(10, &left, &alone[0]),
+        footprint(10, &right, &alone[1]),
+    ];
+    let passes = |spoil: fn(&mut Ended)| {
+        let mut ended = on_model(&beginning, &shuffle);
+        spoil(&mut ended);
+        check_given(&shuffle, &ended, &alone).is_ok()
+            && check_end(&beginning, &ended, &alone, &feet).is_ok()
+    };
+    assert!(passes(|_| ()));
+    assert!(!passes(|ended| ended.given[1].bits += 1));
+    assert!(!passes(|ended| ended.given[2].answer = 7));
+    assert!(!passes(|ended| ended.given[0].buffer[0] = 0));
+    assert!(!passes(|ended| ended.image[256] = u32::MAX));
+    assert!(!passes(|ended| ended.image[9] = 0));
+    assert!(!passes(|ended| ended.controller.recorded = 0));
+    assert!(!passes(|ended| ended.controller.read_queue.length = 1));
+}

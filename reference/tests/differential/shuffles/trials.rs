@@ -1,0 +1,231 @@
+//! Random pairs of lists that mostly keep out of each other's pages.
+
+use super::{claim, Beginning, Item, List};
+use crate::dice::Dice;
+use crate::shrink::shortest;
+use crate::watch::watched;
+use reference::interface::{flat, from_reference};
+use reference::model::{self, Controller};
+use std::fmt::Write;
+use std::time::{Duration, Instant};
+
+const WORKERS: u64 = 2;
+const SHRINK_TIME: Duration = Duration::from_secs(20);
+
+/// How many trials a run of them made.
+#[derive(Clone, Copy, Debug, Default)]
+pub struct Counts {
+    pub trials: u64,
+    /// The premise held.
+    pub held: u64,
+    /// It held, and both lists programmed or erased.
+    pub both_wrote: u64,
+}
+
+/// Whose page it is; a list mostly keeps to its own and reads what is nobody's.
+#[derive(Clone, Copy, Debug, PartialEq, Eq)]
+enum Owner {
+    One(List),
+    Nobody,
+}
+
+struct Trials {
+    dice: Dice,
+}
+
+impl Trials {
+    fn beginning(&mut self) -> Beginning {
+        let data_pages = self.dice.pick(&[10, 10, 11, 12]);
+        let mut c = Controller {
+            data_pages,
+            phase: model::Phase::Ready,
+            provision_enabled: self.dice.percent(80),
+            seeds_locked: self.dice.percent(30),
+            default_rights: self.rights(),
+            bank_erase_permissions: [self.dice.percent(80), self.dice.percent(80)],
+            ..Controller::default()
+        };
+        for setting in &mut c.info_settings {
+            setting.on = self.dice.percent(90);
+            setting.rights = self.rights();
+        }
+        for region in c.regions.iter_mut().take(3) {
+            region.on = self.dice.percent(30);
+            region.first_page = self.dice.below(2 * data_pages);
+            region.page_count = self.dice.below(2 * data_pages - region.first_page + 1);
+            region.rights = self.rights();
+        }
+        if self.dice.percent(20) {
+            c.recorded = self.dice.pick(&[1 << 5, 1 << 9, 0x3A0]);
+            c.last_address = self.dice.word();
+        }
+        let words = model::image_words(data_pages) as usize;
+        // Where check 1 fails, every operation gives 1.
+        let wrong = self.dice.percent(1);
+        Beginning {
+            controller: from_reference(&c),
+            image: self.dice.flash_words(words - usize::from(wrong)),
+        }
+    }
+
+    fn rights(&mut self) -> u8 {
+        if self.dice.percent(80) {
+            7
+        } else {
+            self.dice.below(8) as u8
+        }
+    }
+
+    /// Every page of the image has an owner: by bank, or page by page.
+    fn owners(&mut self, data_pages: u32) -> Vec<Owner> {
+        let bank_pages = data_pages as usize + 13;
+        let by_bank = self.dice.percent(25);
+        let owner = [
+            Owner::One(List::Left),
+            Owner::One(List::Right),
+            Owner::Nobody,
+        ];
+        (0..2 * bank_pages)
+            .map(|page| match by_bank {
+                true => owner[page / bank_pages],
+                false => self.dice.pick(&owner),
+            })
+            .collect()
+    }
+
+    fn shuffle(&mut self, data_pages: u32) -> Vec<Item> {
+        let owners = self.owners(data_pages);
+        let mut left = [self.dice.below(7), self.dice.below(7)];
+        let mut items = Vec::new();
+        while left[0] + left[1] > 0 {
+            let list = [List::Left, List::Right][self.dice.weighted(&left)];
+            left[list as usize] -= 1;
+            items.push(self.item(data_pages, list, &owners));
+        }
+        items
+    }
+
+    fn item(&mut self, data_pages: u32, list: List, owners: &[Owner]) -> Item {
+        let kind = [0, 1, 2, 3, 4][self.dice.weighted(&[40, 40, 16, 3, 1])];
+        let page = self.page_for(list, kind, owners);
+        let operation = self.operation_on(data_pages, kind, page);
+        let room = operation.count.min(64) + self.dice.below(4);
+        let words = room - u32::from(self.dice.percent(3)).min(room);
+        Item {
+            list,
+            operation,
+            buffer: self.dice.flash_words(words as usize),
+        }
+    }
+
+    fn page_for(&mut self, list: List, kind: u8, owners: &[Owner]) -> u32 {
+        let anywhere = self.dice.percent(2);
+        loop {
+            let page = self.dice.below(owners.len() as u32);
+            let owner = owners[page as usize];
+            let shared = kind == model::READ && owner == Owner::Nobody;
+            if anywhere || shared || owner == Owner::One(list) {
+                return page;
+            }
+            // A list may own no page at all.
+            if self.dice.percent(1) {
+                return page;
+            }
+        }
+    }
+
+    /// An operation on a page of the image, rarely spoiled.
+    fn operation_on(&mut self, data_pages: u32, kind: u8, page: u32) -> flat::Operation {
+        let bank_pages = data_pages + 13;
+        let (bank, place) = (page / bank_pages, page % bank_pages);
+        let (partition, info_type, page_in_bank) = match place.checked_sub(data_pages) {
+            None => (model::DATA, self.dice.byte(), place),
+            Some(info @ 0..=9) => (model::INFORMATION, 0, info),
+            Some(10) => (model::INFORMATION, 1, 0),
+            Some(info) => (model::INFORMATION, 2, info - 11),
+        };
+        let word = self.dice.below(256);
+        let count = match kind {
+            model::PROGRAM if self.dice.percent(88) => self.dice.between(1, 16 - word % 16),
+            _ => self.dice.between(1, 20),
+        };
+        let spoiled = u32::from(self.dice.percent(3));
+        flat::Operation {
+            address: (bank * data_pages + page_in_bank) * 1024 + 4 * word + spoiled,
+            count,
+            kind,
+            partition,
+            info_type,
+        }
+    }
+}
+
+fn trial(seed: u64) -> (Beginning, Vec<Item>) {
+    let mut trials = Trials {
+        dice: Dice::new(seed),
+    };
+    let beginning = trials.beginning();
+    let shuffle = trials.shuffle(beginning.controller.data_pages);
+    (beginning, shuffle)
+}
+
+/// The trials of all workers; the first that fails is shrunk and told.
+pub fn trials(seed: u64, number: u64) -> Result<Counts, String> {
+    let parts = watched(WORKERS, move |worker, watch| {
+        let mut counts = Counts::default();
+        let mut place = worker;
+        while place < number && watch.begins(worker, place) {
+            let own_seed = Dice::new(seed.wrapping_add(place << 32)).seed();
+            if let Err(told) = count_trial(own_seed, &mut counts) {
+                watch.stop();
+                return Err(format!("seed {seed:#x}, trial {place}: {told}"));
+            }
+            place += WORKERS;
+        }
+        Ok(counts)
+    });
+    let mut all = Counts::default();
+    for part in parts {
+        let part = part?;
+        all.trials += part.trials;
+        all.held += part.held;
+        all.both_wrote += part.both_wrote;
+    }
+    Ok(all)
+}
+
+fn count_trial(seed: u64, counts: &mut Counts) -> Result<(), String> {
+    let (beginning, shuffle) = trial(seed);
+    counts.trials += 1;
+    match claim(&beginning, &shuffle) {
+        None => {}
+        Some(Ok(wrote)) => {
+            counts.held += 1;
+            counts.both_wrote += u64::from(wrote);
+        }
+        Some(Err(_)) => return Err(shrunk(&beginning, &shuffle)),
+    }
+    Ok(())
+}
+
+/// The fewest operations found for which the premise holds and the claim fails.
+fn shrunk(beginning: &Beginning, shuffle: &[Item]) -> String {
+    let until = Instant::now() + SHRINK_TIME;
+    let few = shortest(shuffle, until, |items| {
+        matches!(claim(beginning, items), Some(Err(_)))
+    });
+    let Some(Err(mut told)) = claim(beginning, &few) else {
+        unreachable!("what is kept fails");
+    };
+    told.push('\n');
+    for item in few {
+        let words = item.buffer.len();
+        writeln!(
+            told,
+            "  {:?}: {:?}, buffer of {words}",
+            item.list, item.operation
+        )
+        .unwrap();
+    }
+    told
+}

@@ -1,0 +1,172 @@
+//! Deep states that a run must have met, each told by one call and what was
+//! there before it.
+
+use crate::calls::{Call, Outcome};
+use reference::interface::flat::{self, Controller, Operation};
+use reference::model;
+
+/// One call, with the state that it met.
+pub struct Met<'a> {
+    pub before: &'a Controller,
+    pub call: &'a Call,
+    pub outcome: &'a Outcome,
+    /// How many fields the bench had written just before.
+    pub writes: usize,
+    /// The words that the operation in progress has moved by steps since its start, if all of them so.
+    pub stepped: Option<u32>,
+}
+
+type Situation = (&'static str, fn(&Met) -> bool);
+
+pub const SITUATIONS: [Situation; 19] = [
+    ("overlapping regions with other rights", |met| {
+        let page = met.page();
+        met.judged() && page.is_some_and(|page| overlap(met.before, page))
+    }),
+    ("read denied past its first page", |met| {
+        let first = met.read_span().map(|(first, _)| first);
+        met.answer(9) && first.is_some_and(|page| rights(met.before, page) & 1 == 1)
+    }),
+    ("read over the bank border", |met| {
+        met.answer(0) && met.read_span().is_some_and(|span| met.over_border(span))
+    }),
+    ("information span over its bank's end", |met| {
+        let span = met.operation(model::READ).filter(|o| o.partition == 1);
+        met.answer(7) && span.is_some_and(|o| met.over_border(pages(o)))
+    }),
+    ("program up to its window's end", |met| {
+        let program = met.operation(model::PROGRAM);
+        met.answer(0) && program.is_some_and(|o| (o.address + 4 * o.count) % 64 == 0)
+    }),
+    ("whole read of 1,024 words", |met| {
+        let whole = matches!(met.call, Call::Run { .. });
+        whole && met.answer(0) && met.operation(model::READ).is_some_and(|o| o.count == 1024)
+    }),
+    ("whole operation with a word queued", |met| {
+        let whole = matches!(met.call, Call::Run { .. });
+        whole && met.answer(4) && met.before.progress.running == 0
+    }),
+    ("start with words in the read queue", |met| {
+        let start = matches!(met.call, Call::Start { .. });
+        start && met.answer(0) && met.before.read_queue.length > 0
+    }),
+    ("image too short", |met| {
+        met.answer(1) && met.writes == 0 && met.image_words().is_some_and(|n| n < met.right())
+    }),
+    ("image too long", |met| {
+        met.answer(1) && met.writes == 0 && met.image_words().is_some_and(|n| n > met.right())
+    }),
+    ("one field broken", |met| met.broken() && met.writes == 1),
+    ("several fields broken", |met| {
+        met.broken() && met.writes > 1
+    }),
+    ("broken state reset", |met| {
+        let reset = matches!(met.call, Call::Reset { .. });
+        reset && met.answer(0) && met.before.phase > flat::PHASE_DISABLED
+    }),
+    ("operation in progress written by hand", |met| {
+        met.answer(0) && met.writes > 1 && met.before.progress.running == 1
+    }),
+    ("seeds handed out", |met| met.outcome.seeds.given == 1),
+    ("host read during an operation", |met| {
+        let read = matches!(met.call, Call::HostRead { .. });
+        read && met.answer(0) && met.before.progress.running == 1
+    }),
+    ("view during an operation", |met| {
+        let view = matches!(met.call, Call::View { .. });
+        view && met.answer(0) && met.before.progress.running == 1
+    }),
+    ("data bank erased by all its steps", |met| {
+        met.erased_by_steps(model::DATA)
+    }),
+    ("whole bank erased by all its steps", |met| {
+        met.erased_by_steps(model::INFORMATION)
+    }),
+];
+
+impl Met<'_> {
+    fn answer(&self, number: u32) -> bool {
+        self.outcome.answer == number
+    }
+
+    /// The rights were looked at.
+    fn judged(&self) -> bool {
+        self.answer(0) || self.answer(9)
+    }
+
+    fn broken(&self) -> bool {
+        self.answer(1) && !matches!(self.call, Call::Reset { .. })
+    }
+
+    fn operation(&self, kind: u8) -> Option<Operation> {
+        self.call.operation().filter(|o| o.kind == kind)
+    }
+
+    /// The first and the last page of a data read.
+    fn read_span(&self) -> Option<(u32, u32)> {
+        let read = self.operation(model::READ)?;
+        (read.partition == model::DATA).then(|| pages(read))
+    }
+
+    fn over_border(&self, (first, last): (u32, u32)) -> bool {
+        first < self.before.data_pages && last >= self.before.data_pages
+    }
+
+    /// The data page that a host read or a view asks for.
+    fn page(&self) -> Option<u32> {
+        match self.call {
+            Call::HostRead { address, .. } => Some(address / 1024),
+            Call::View { page, .. } => Some(*page),
+            _ => None,
+        }
+    }
+
+    fn image_words(&self) -> Option<usize> {
+        match self.call {
+            Call::Initialise { image_words }
+            | Call::Step { image_words }
+            | Call::Run { image_words, .. }
+            | Call::HostRead { image_words, .. }
+            | Call::View { image_words, .. }
+            | Call::Rma { image_words } => Some(*image_words),
+            _ => None,
+        }
+    }
+
+    fn right(&self) -> usize {
+        model::image_words(self.before.data_pages.min(256)) as usize
+    }
+
+    fn erased_by_steps(&self, partition: u8) -> bool {
+        let progress = &self.before.progress;
+        let erase = progress.operation.kind == model::BANK_ERASE
+            && progress.operation.partition == partition;
+        let finished = self.outcome.movement == flat::MOVEMENT_FINISHED;
+        finished && erase && self.stepped == Some(progress.moved)
+    }
+}
+
+/// The first and the last page of an operation's words.
+fn pages(operation: Operation) -> (u32, u32) {
+    let last = u64::from(operation.address) + 4 * u64::from(operation.count.max(1)) - 1;
+    (operation.address / 1024, (last / 1024) as u32)
+}
+
+fn holding(c: &Controller, page: u32) -> impl Iterator<Item = u8> + '_ {
+    let holds = move |r: &&flat::Region| {
+        r.on == 1 && r.first_page <= page && page - r.first_page < r.page_count
+    };
+    c.regions.iter().filter(holds).map(|r| r.rights)
+}
+
+fn overlap(c: &Controller, page: u32) -> bool {
+    let mut rights = holding(c, page);
+    match rights.next() {
+        Some(first) => rights.any(|other| other != first),
+        None => false,
+    }
+}
+
+fn rights(c: &Controller, page: u32) -> u8 {
+    holding(c, page).next().unwrap_or(c.default_rights)
+}
