@@ -22,7 +22,7 @@ use results::FlatViewed;
 pub extern "C" fn lurgabel_value_reset(s: FlatController, pages: u32) -> FlatOutcome
     ensures { λ r. ⌜ r ≡ resetFlat s pages ⌝ }
 {
-    results::reset_of(s, lifecycle::reset(encoding::decode(s), pages))
+    results::reset_of(s, resetting::reset(encoding::decode(s), pages))
 }
 
 #[no_mangle]
@@ -177,7 +177,7 @@ pub extern "C" fn lurgabel_value_host_read(
 pub extern "C" fn lurgabel_value_view(s: FlatController, image: &[u32], page: u32) -> FlatViewed
     ensures { λ r. ⌜ r ≡ viewFlat s (record { words = now (image .entry) }) page ⌝ }
 {
-    let place = host::view_place(encoding::decode(s), image, Page(page));
+    let place = view::view_place(encoding::decode(s), image, Page(page));
     let answer = place.answer;
     let start = place.start;
     FlatViewed {

@@ -103,6 +103,6 @@ pub fn operation_answer(c: Controller, o: Operation) -> Answer
     }
     let range = refusals::check(out_of_range(c.pages, o), Answer::OutOfRange);
     let window = refusals::check(crosses_window(o), Answer::CrossesWindow);
-    let rights = refusals::check(rights::denied(c, o), Answer::Denied);
+    let rights = refusals::check(permission::denied(c, o), Answer::Denied);
     refusals::or_else(range, refusals::or_else(window, rights))
 }

@@ -1,132 +1,15 @@
 // The whole flat state: whether it encodes a controller, which one, and what a call hands back.
 ghost use mathlib.Core.Path.{_≡_};
 ghost use mathlib.Core.Bool.{cond};
-ghost use Rattle.flat.specs.Encoding.{isOn, workOf, progressOf, progressEncoded, noProgress, putWork, putProgress, settingsPart, encoded, decode, put, zeroed, handBack};
+ghost use Rattle.flat.specs.Encoding.{settingsPart, encoded, decode, put, zeroed, handBack};
 use flat::FlatController;
-use flat::FlatOperation;
-use flat::FlatProgress;
 use flat::FlatQueue;
 use flat::FlatRegion;
 use flat::FlatSetting;
 use model::Controller;
 use model::Inputs;
-use model::Progress;
 use model::Queues;
 use model::Settings;
-use model::Work;
-
-// ---- the operation in progress
-
-fn work_of(p: FlatProgress) -> Work
-    ensures { λ r. ⌜ r ≡ workOf p ⌝ }
-{
-    let operation = p.operation;
-    let op = flat::operation_of(operation);
-    if operation.kind == 0 {
-        return Work::Read {
-            op,
-            moved: p.moved,
-            readable: p.readable,
-        };
-    }
-    if operation.kind == 1 {
-        return Work::Program { op, moved: p.moved };
-    }
-    Work::Erase { op, moved: p.moved }
-}
-
-fn progress_of(p: FlatProgress) -> Progress
-    ensures { λ r. ⌜ r ≡ progressOf p ⌝ }
-{
-    if flat::is_on(p.running) {
-        return Progress::Running(work_of(p));
-    }
-    Progress::Idle
-}
-
-// A running operation has one of the four kinds.
-fn progress_encoded(p: FlatProgress) -> bool
-    ensures { λ r. ⌜ r ≡ progressEncoded p ⌝ }
-{
-    let operation = p.operation;
-    let flag = flat::is_flag(p.running);
-    let idle = !flat::is_on(p.running);
-    flag & (idle | (operation.kind <= 3))
-}
-
-fn no_progress() -> FlatProgress
-    ensures { λ r. ⌜ r ≡ noProgress ⌝ }
-{
-    FlatProgress {
-        operation: FlatOperation {
-            address: 0,
-            count: 0,
-            kind: 0,
-            partition: 0,
-            info: 0,
-        },
-        moved: 0,
-        readable: 0,
-        running: 0,
-    }
-}
-
-// A field that the work does not use keeps what it holds; where the operation has just started it is 0.
-fn kept(p: FlatProgress) -> u32
-    ensures { λ r. ⌜ r ≡ cond (isOn (p .running)) (p .readable) 0 ⌝ }
-{
-    if flat::is_on(p.running) {
-        p.readable
-    } else {
-        0
-    }
-}
-
-fn put_work(p: FlatProgress, w: Work) -> FlatProgress
-    ensures { λ r. ⌜ r ≡ putWork p w ⌝ }
-{
-    match w {
-        Work::Read {
-            op,
-            moved,
-            readable,
-        } => FlatProgress {
-            operation: flat::flat_operation(op),
-            moved,
-            readable,
-            running: 1,
-        },
-        Work::Program { op, moved } => FlatProgress {
-            operation: flat::flat_operation(op),
-            moved,
-            readable: kept(p),
-            running: 1,
-        },
-        Work::Erase { op, moved } => FlatProgress {
-            operation: flat::flat_operation(op),
-            moved,
-            readable: kept(p),
-            running: 1,
-        },
-    }
-}
-
-// With nothing in progress before and after, what no rule looks at stays; an operation that has ended leaves zeros.
-fn put_progress(p: FlatProgress, progress: Progress) -> FlatProgress
-    ensures { λ r. ⌜ r ≡ putProgress p progress ⌝ }
-{
-    match progress {
-        Progress::Idle => {
-            if flat::is_on(p.running) {
-                return no_progress();
-            }
-            p
-        }
-        Progress::Running(w) => put_work(p, w),
-    }
-}
-
-// ---- the whole state
 
 fn settings_part(s: FlatController) -> Settings
     ensures { λ r. ⌜ r ≡ settingsPart s ⌝ }
@@ -159,7 +42,7 @@ fn encoded(s: FlatController) -> bool
     let held = arrays::regions_encoded(regions);
     let pages = arrays::settings_encoded(info);
     let banks = arrays::flags_encoded(erase);
-    let running = progress_encoded(progress);
+    let running = progress::progress_encoded(progress);
     let mask = flat::is_mask(s.recorded);
     phase & (provision & (locked & (held & (pages & (banks & (running & mask))))))
 }
@@ -190,7 +73,7 @@ pub fn decode(s: FlatController) -> Controller
         settings,
         errors,
         queues: Queues { reads, programs },
-        progress: progress_of(progress),
+        progress: progress::progress_of(progress),
     }
 }
 
@@ -223,7 +106,7 @@ pub fn put(s: FlatController, c: Controller) -> FlatController
         regions: held,
         info: pages,
         erase: banks,
-        progress: put_progress(before, progress),
+        progress: progress::put_progress(before, progress),
         reads: flat::flat_queue(reads),
         programs: flat::flat_queue(programs),
         recorded: flat::mask_of(errors),
@@ -255,7 +138,7 @@ pub fn zeroed() -> FlatController
         regions: [region; 8],
         info: [page; 26],
         erase: [0u8; 2],
-        progress: no_progress(),
+        progress: progress::no_progress(),
         reads: queue,
         programs: queue,
         recorded: 0,

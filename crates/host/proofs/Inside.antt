@@ -1,18 +1,16 @@
--- An accepted host read or view lies in the image. Assumes nothing.
-use Prim.Native.Nat.{_+_, _*_, _≤_, _<_}
+-- An accepted host read lies in the image. Assumes nothing.
+use Prim.Native.Nat.{_*_, _≤_, _<_}
 use native.Mathlib.Omega.{arith}
 use mathlib.Core.Path.{_≡_, refl}
 use mathlib.Core.Bool.{true, false}
-use lib.Dec.{leb}
 use lib.ListN.{length}
 use borrow.Author.Tests.{leb-false}
-use Rattle.model.specs.Geometry.{pageOf, imagePage, firstWord, wordAt}
+use Rattle.model.specs.Geometry.{pageOf, wordAt}
 use Rattle.model.specs.State.{Flash}
 use Rattle.model.specs.Refusals.{accepts, check, readyAnswer, phaseAnswer}
 use Rattle.model.specs.Checks.{unaligned, pastData}
 use Rattle.model.specs.Valid.{validWith}
-use Rattle.model.specs.Host.{hostAnswer, viewAnswer}
-use Rattle.model.specs.declared.Page.{Page}
+use Rattle.model.specs.Host.{hostAnswer}
 use Rattle.model.specs.declared.ByteAddress.{ByteAddress}
 use Rattle.model.specs.declared.Controller.{Controller}
 use Rattle.model.specs.declared.Answer.the-variants.{Malformed, OutOfRange}
@@ -20,7 +18,6 @@ use Rattle.model.proofs.Geometry.{data-inside, word-at-inside}
 use Rattle.model.proofs.Answers.{both-accept, check-passed}
 use Rattle.model.proofs.Accepting.{lent-fits}
 
--- The word that a host read delivers,
 pub read-inside : (c : Controller) (f : Flash) (a : ByteAddress) → accepts (hostAnswer c f a) ≡ true
     → (c .pages ≤ 256) × (wordAt (c .pages) false 0 a .0 < length (f .words))
 unfolding hostAnswer
@@ -30,14 +27,3 @@ read-inside c f a h =
     let range = both-accept (check (pastData (c .pages) a) OutOfRange) _ (both-accept (check (unaligned a) Malformed) _ rest .1) .0 in
     let below : a .0 < 2 * c .pages * 1024 = leb-false _ _ (check-passed _ OutOfRange refl range) in
     (fits .0, omega (arith, word-at-inside (c .pages) false 0 a (data-inside (c .pages) 0 (pageOf a) (omega arith))))
-
--- and the page that a view shows.
-pub view-inside : (c : Controller) (f : Flash) (p : Page) → accepts (viewAnswer c f p) ≡ true
-    → (c .pages ≤ 256) × (p .0 < 512) × (firstWord (imagePage (c .pages) false 0 p) .0 + 256 ≤ length (f .words))
-unfolding viewAnswer
-view-inside c f p h =
-    let (ready, rest) = both-accept (readyAnswer (validWith c f) (c .phase)) _ h in
-    let fits = lent-fits c f (phaseAnswer (c .phase)) ready in
-    let range = both-accept (check (leb (2 * c .pages) (p .0)) OutOfRange) _ rest .0 in
-    let below : p .0 < 2 * c .pages = leb-false _ _ (check-passed _ OutOfRange refl range) in
-    (fits .0, omega arith, omega (arith, data-inside (c .pages) 0 p below))

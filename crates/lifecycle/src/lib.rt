@@ -1,87 +1,15 @@
-// Reset, and initialise with the seeds.
+// Initialise, with the seeds.
 ghost use mathlib.Core.Path.{_≡_};
 ghost use Prim.Native.Nat.{_+_, _≤_};
 ghost use lib.ListN.{length, take, drop};
 ghost use Rattle.model.specs.Geometry.{imageWords};
-ghost use Rattle.model.specs.State.{settingsOff, emptyQueues, freshController};
-ghost use Rattle.model.specs.Lifecycle.{reset, isDisabled, seedWords, noSeeds, seedsOf, initialiseAnswer, initialise};
+ghost use Rattle.model.specs.Lifecycle.{isDisabled, seedWords, noSeeds, seedsOf, initialiseAnswer, initialise};
 use model::Answer;
 use model::BusWord;
 use model::Controller;
 use model::Initialised;
-use model::Inputs;
-use model::Outcome;
-use model::Page;
-use model::PageSetting;
 use model::Phase;
-use model::Progress;
-use model::Queues;
-use model::Region;
 use model::Seeds;
-use model::Settings;
-
-// ---- reset
-
-fn settings_off() -> Settings
-    ensures { λ r. ⌜ r ≡ settingsOff ⌝ }
-{
-    let region = Region {
-        on: false,
-        first: Page(0),
-        count: 0,
-        rights: 0,
-    };
-    let page = PageSetting {
-        on: false,
-        rights: 0,
-    };
-    Settings {
-        regions: [region; 8],
-        default_rights: 0,
-        info: [page; 26],
-        erase: [false; 2],
-    }
-}
-
-pub fn empty_queues() -> Queues
-    ensures { λ r. ⌜ r ≡ emptyQueues ⌝ }
-{
-    let reads = queue::empty();
-    let programs = queue::empty();
-    Queues { reads, programs }
-}
-
-// Every setting and input off or 0, empty queues and records: what reset gives, and a state to hand to a first reset.
-pub fn fresh(d: u32) -> Controller
-    ensures { λ r. ⌜ r ≡ freshController d ⌝ }
-{
-    let settings = settings_off();
-    let queues = empty_queues();
-    let errors = state::no_errors();
-    Controller {
-        pages: d,
-        phase: Phase::Uninitialised,
-        inputs: Inputs {
-            provision: false,
-            locked: false,
-        },
-        settings,
-        errors,
-        queues,
-        progress: Progress::Idle,
-    }
-}
-
-// Takes any state, and checks only its new D.
-pub fn reset(c: Controller, d: u32) -> Outcome
-    ensures { λ r. ⌜ r ≡ reset c d ⌝ }
-{
-    let answer = refusals::check(!geometry::pages_fit(d), Answer::Invalid);
-    let next = fresh(d);
-    refusals::settle(c, next, answer)
-}
-
-// ---- initialise
 
 pub fn is_disabled(p: Phase) -> bool
     ensures { λ r. ⌜ r ≡ isDisabled p ⌝ }

@@ -1,6 +1,6 @@
 // Answers by number, and chains of checks: the first that applies answers.
 ghost use mathlib.Core.Path.{_≡_};
-ghost use mathlib.Core.Bool.{cond};
+ghost use Rattle.model.specs.Errors.{isRecorded};
 ghost use Rattle.model.specs.Refusals.{numberOf, accepts, isDenied, check, orElse, phaseAnswer, readyAnswer, settle};
 use model::Answer;
 use model::Controller;
@@ -39,6 +39,13 @@ pub fn is_denied(a: Answer) -> bool
     ensures { λ r. ⌜ r ≡ isDenied a ⌝ }
 {
     number_of(a) == 9
+}
+
+// Of an operation, the refusals 5, 7, 8 and 9 are recorded.
+pub fn is_recorded(n: u8) -> bool
+    ensures { λ r. ⌜ r ≡ isRecorded n ⌝ }
+{
+    (n == 5) | ((n == 7) | ((n == 8) | (n == 9)))
 }
 
 // A check: the refusal if its test holds.

@@ -126,7 +126,7 @@ pub fn initialised_of(s: FlatController, r: Initialised) -> FlatInitialised
 fn changes(number: u8) -> bool
     ensures { λ r. ⌜ r ≡ changes number ⌝ }
 {
-    let recorded = (number == 5) | ((number == 7) | ((number == 8) | (number == 9)));
+    let recorded = refusals::is_recorded(number);
     (number == 0) | recorded
 }
 

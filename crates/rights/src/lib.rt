@@ -1,15 +1,11 @@
-// Who may touch which page: the look-up of rights, the seed pages, and the check over a span of pages.
+// Who may touch which page: the look-up of rights, and the seed pages.
 ghost use mathlib.Core.Path.{_≡_};
-ghost use mathlib.Core.Bool.{false};
-ghost use Prim.Native.Nat.{_+_, _<_, _≤_};
+ghost use Prim.Native.Nat.{_<_};
 ghost use lib.ListN.{getD};
 ghost use Rattle.model.specs.State.{pageOff};
-ghost use Rattle.model.specs.Rights.{grants, decides, dataRights, seedClosed, pageRights, infoRights, rightsAt, pageGrants, leading, spanPages, allowedWords, denied};
-ghost use Rattle.model.specs.Places.{spanWords};
-ghost use Rattle.model.specs.Checks.{malformed};
+ghost use Rattle.model.specs.Rights.{grants, decides, dataRights, seedClosed, pageRights, infoRights, rightsAt};
 use model::Controller;
 use model::Inputs;
-use model::Operation;
 use model::Page;
 use model::PageSetting;
 use model::Region;
@@ -103,60 +99,4 @@ pub fn rights_at(c: Controller, information: bool, t: u8, p: Page) -> u8
     }
     let regions = settings.regions;
     data_rights(regions, settings.default_rights, p)
-}
-
-fn page_grants(c: Controller, o: Operation, p: u32) -> bool
-    ensures { λ r. ⌜ r ≡ pageGrants c o p ⌝ }
-{
-    let information = places::is_information(o);
-    let rights = rights_at(c, information, o.info, Page(p));
-    grants(rights, places::right_needed(o))
-}
-
-// How many of the `count` pages from `from` on grant the operation, before the first that does not.
-fn leading_pages(c: Controller, o: Operation, from: u32, count: u32) -> u32
-    requires { ⌜ from + count < 4294967296 ⌝ }
-    ensures { λ r. ⌜ (r ≡ leading (pageGrants c o) from count) × (r ≤ count) ⌝ }
-{
-    let mut i: u32 = 0;
-    while i < count {
-        if !page_grants(c, o, from + i) {
-            return i;
-        }
-        i += 1;
-    }
-    i
-}
-
-// The words before the first page without the right, or all if every page has it.
-pub fn allowed_words(c: Controller, o: Operation) -> u32
-    requires { ⌜ spanWords o < 1048576 ⌝ }
-    ensures { λ r. ⌜ r ≡ allowedWords c o ⌝ }
-{
-    let start = places::span_start(o);
-    let words = places::span_words(o);
-    let pages = (start.0 % 1024 + 4 * words + 1023) / 1024;
-    let first = geometry::page_of(start);
-    let lead = leading_pages(c, o, first.0, pages) * 256;
-    let skipped = geometry::word_in_page(start);
-    if lead <= skipped {
-        return 0;
-    }
-    let before = lead - skipped;
-    if before < words { before } else { words }
-}
-
-// Whether check 9 applies to an operation that passes check 5.
-pub fn denied(c: Controller, o: Operation) -> bool
-    requires { ⌜ malformed o ≡ false ⌝ }
-    ensures { λ r. ⌜ r ≡ denied c o ⌝ }
-{
-    if places::is_bank_erase(o) {
-        let settings = c.settings;
-        let erase = settings.erase;
-        let address = o.address;
-        let bank = geometry::bank_of(c.pages, geometry::page_of(address)) as usize;
-        return !erase[bank];
-    }
-    allowed_words(c, o) < places::span_words(o)
 }

@@ -33,7 +33,7 @@ pub fn set_region(c: Controller, number: u32, g: Region) -> Outcome
     ensures { λ r. ⌜ r ≡ setRegion c number g ⌝ }
 {
     let settings = c.settings;
-    let fits = validity::region_fits(c.pages, g);
+    let fits = bounds::region_fits(c.pages, g);
     let answer = setting_answer(c, (number < 8) & fits);
     let next = state::with_settings(c, tables::with_region(settings, number as usize, g));
     refusals::settle(c, next, answer)
@@ -44,7 +44,7 @@ pub fn set_default(c: Controller, rights: u8) -> Outcome
     ensures { λ r. ⌜ r ≡ setDefault c rights ⌝ }
 {
     let settings = c.settings;
-    let answer = setting_answer(c, validity::rights_fit(rights));
+    let answer = setting_answer(c, bounds::rights_fit(rights));
     let next = state::with_settings(c, tables::with_default(settings, rights));
     refusals::settle(c, next, answer)
 }
@@ -55,7 +55,7 @@ pub fn set_info(c: Controller, bank: u32, t: u8, page: u32, p: PageSetting) -> O
 {
     let settings = c.settings;
     let exists = tables::info_exists(bank, t, page);
-    let fits = validity::page_fits(p);
+    let fits = bounds::page_fits(p);
     let answer = setting_answer(c, exists & fits);
     let index = geometry::info_index(bank, t, page);
     let next = state::with_settings(c, tables::with_page(settings, index, p));

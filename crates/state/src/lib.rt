@@ -159,7 +159,7 @@ pub fn recorded(answer: Answer, address: ByteAddress, e: Errors) -> Errors
     let range = n == 7;
     let window = n == 8;
     let denied = n == 9;
-    if malformed | (range | (window | denied)) {
+    if refusals::is_recorded(n) {
         return Errors {
             malformed: e.malformed | malformed,
             range: e.range | range,

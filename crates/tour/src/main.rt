@@ -67,7 +67,7 @@ fn operation(kind: u8, address: u32, count: u32) -> Operation {
 
 // Reset, rights for pages 0 to 3 only, initialise.
 fn made(image: &[u32]) -> Controller {
-    let c = line(b"reset", lifecycle::reset(lifecycle::fresh(0), 10));
+    let c = line(b"reset", resetting::reset(resetting::fresh(0), 10));
     let pages = Region {
         on: true,
         first: Page(0),
@@ -144,5 +144,5 @@ fn main() {
     let c = refused(erased(c, &mut image));
     let c = line(b"RMA", rma::rma(c, &mut image));
     let c = line(b"start read", operations::start(c, operation(0, 0, 1)));
-    line(b"reset with 257 pages", lifecycle::reset(c, 257));
+    line(b"reset with 257 pages", resetting::reset(c, 257));
 }

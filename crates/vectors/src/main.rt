@@ -52,7 +52,7 @@ fn open_bank(c: Controller, bank: u32) -> Controller {
 
 // All rights, with provision on and the seeds not locked; not yet initialised.
 fn all_rights() -> Controller {
-    let c = after(lifecycle::reset(lifecycle::fresh(0), 16));
+    let c = after(resetting::reset(resetting::fresh(0), 16));
     let inputs = Inputs {
         provision: true,
         locked: false,
@@ -129,7 +129,7 @@ fn first_with_zeros(image: &[u32]) -> usize {
 
 fn reset(d: u32) -> Controller {
     number(b"reset, D=", d as u64);
-    let r = lifecycle::reset(lifecycle::fresh(0), d);
+    let r = resetting::reset(resetting::fresh(0), d);
     let a = r.answer;
     answer_line(a);
     r.controller

@@ -1,63 +1,10 @@
-// A whole operation: its checks once, the transfer of its words, and the controller afterwards.
+// A whole operation: its checks once, and what their answer leaves.
 ghost use mathlib.Core.Path.{_≡_};
-ghost use mathlib.Core.Bool.{true, false};
-ghost use Rattle.model.specs.Refusals.{accepts};
-ghost use Rattle.model.specs.Checks.{operationAnswer};
-ghost use Rattle.model.specs.Whole.{wholeAnswer, shortBuffer, whole};
-ghost use Rattle.plans.specs.Plan.{planStarted, planAnswered, performed};
+ghost use Rattle.model.specs.Whole.{whole};
 use model::Answer;
 use model::Completed;
 use model::Controller;
 use model::Operation;
-
-fn completed(c: Controller, answer: Answer, bits: u32) -> Completed
-    ensures { λ r. ⌜ r ≡ record { controller = c; answer = answer; bits = bits } ⌝ }
-{
-    Completed {
-        controller: c,
-        answer,
-        bits,
-    }
-}
-
-// An operation that passes every check.
-fn started(c: Controller, image: &mut [u32], o: Operation, buffer: &mut [u32]) -> Completed
-    requires { ⌜ (accepts (wholeAnswer c (record { words = now image })) ≡ true) × (shortBuffer o (now buffer) ≡ false) × (accepts (operationAnswer c o) ≡ true) ⌝ }
-    ensures { λ r. ⌜ record { result = r; flash = record { words = now (image .exit) }; buffer = now (buffer .exit) } ≡ performed c (record { words = now (image .entry) }) o (now (buffer .entry)) (planStarted (c .pages) o) ⌝ }
-{
-    if places::is_read(o) {
-        transfers::read(c.pages, image, o, buffer);
-        return completed(transfers::reads_drained(c), Answer::Accepted, 0);
-    }
-    if places::is_program(o) {
-        let bits = transfers::program(c, image, o, buffer);
-        return completed(transfers::programs_drained(c), Answer::Accepted, bits);
-    }
-    let bits = transfers::erase(c, image, o);
-    completed(c, Answer::Accepted, bits)
-}
-
-// What the answer of checks 5, 7, 8 and 9 leaves: a refusal is recorded, and a denied read is blank.
-fn answered(
-    c: Controller,
-    image: &mut [u32],
-    o: Operation,
-    buffer: &mut [u32],
-    answer: Answer,
-) -> Completed
-    requires { ⌜ (accepts (wholeAnswer c (record { words = now image })) ≡ true) × (shortBuffer o (now buffer) ≡ false) × (answer ≡ operationAnswer c o) ⌝ }
-    ensures { λ r. ⌜ record { result = r; flash = record { words = now (image .exit) }; buffer = now (buffer .exit) } ≡ performed c (record { words = now (image .entry) }) o (now (buffer .entry)) (planAnswered (c .pages) o answer) ⌝ }
-{
-    if refusals::accepts(answer) {
-        return started(c, image, o, buffer);
-    }
-    let next = transfers::with_recorded(c, answer, o);
-    if places::is_read(o) & refusals::is_denied(answer) {
-        transfers::blank(buffer, o.count as usize);
-        return completed(transfers::reads_drained(next), answer, 0);
-    }
-    completed(next, answer, 0)
-}
 
 // 6 comes after 5, since a malformed operation does not come to it, and before 7, 8 and 9.
 pub fn run(c: Controller, image: &mut [u32], o: Operation, buffer: &mut [u32]) -> Completed
@@ -68,10 +15,10 @@ pub fn run(c: Controller, image: &mut [u32], o: Operation, buffer: &mut [u32]) -
     let sixth = refusals::check(short, Answer::ShortBuffer);
     let answer = refusals::or_else(sixth, checks::operation_answer(c, o));
     if !refusals::accepts(first) {
-        return completed(c, first, 0);
+        return execution::completed(c, first, 0);
     }
     if short {
-        return completed(c, answer, 0);
+        return execution::completed(c, answer, 0);
     }
-    answered(c, image, o, buffer, answer)
+    execution::answered(c, image, o, buffer, answer)
 }

@@ -1,4 +1,5 @@
 -- `state::recorded` meets its contract. Assumes nothing.
+use mathlib.Core.Path.{sym, _∙_}
 use Rattle.model.specs.Errors.{recorded}
 use Rattle.state.proofs.recorded.Statement.{statement}
 use Rattle.state.proofs.recorded.Tie as tie
@@ -8,5 +9,6 @@ unfolding recorded
 recorded-spec =
     tie.close (tie.spec
     (λ c κs. tt)
-    (λ c. simp (← c .before .before .before .before .before .number-of .ensures, c .before .before .before .before .if1 .taken))
-    (λ c. simp (← c .before .number-of .ensures, c .if1 .left)))
+    (λ c κs. tt)
+    (λ c. simp (← c .before .before .before .before .before .before .number-of .ensures, sym (c .before .before .before .before .before .is-recorded .ensures) ∙ c .before .before .before .before .if1 .taken))
+    (λ c. simp (← c .before .before .number-of .ensures, sym (c .before .is-recorded .ensures) ∙ c .if1 .left)))

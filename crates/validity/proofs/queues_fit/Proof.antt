@@ -1,9 +1,0 @@
--- `validity::queues_fit` meets its contract. Assumes nothing.
-use Rattle.validity.proofs.queues_fit.Statement.{statement}
-use Rattle.validity.proofs.queues_fit.Tie as tie
-
-pub queues-fit-spec : {M : Type 1} → statement M
-queues-fit-spec =
-    tie.close (tie.spec
-    (λ c κs. tt)
-    (λ c. rw (c .both-empty .ensures)))

@@ -1,7 +1,0 @@
--- `validity::rights_fit` meets its contract. Assumes nothing.
-use borrow.Author.Needs.{needs}
-use Rattle.validity.proofs.rights_fit.Statement.{statement}
-use Rattle.validity.proofs.rights_fit.Tie as tie
-
-pub rights-fit-spec : {M : Type 1} → statement M
-rights-fit-spec = tie.close (tie.spec (λ c. search needs))

@@ -1,0 +1,29 @@
+// The words that RMA erases.
+ghost use mathlib.Core.Path.{_≡_};
+ghost use Prim.Native.Nat.{_-_, _≤_};
+ghost use lib.ListN.{length, replicate};
+ghost use lib.Seq.{sets};
+ghost use Rattle.model.specs.Geometry.{imageWords};
+ghost use Rattle.model.specs.Words.{allOnes};
+ghost use Rattle.model.specs.Lifecycle.{wiped};
+
+// Ones in the words from `from` up to `to`.
+fn erase_range(image: &mut [u32], from: usize, to: usize)
+    requires { ⌜ (from ≤ to) × (to ≤ length (now image)) ⌝ }
+    ensures { λ _. ⌜ now (image .exit) ≡ sets (now (image .entry)) from (replicate (to - from) allOnes) ⌝ }
+{
+    for i in from..to {
+        image[i] = 0xFFFF_FFFF;
+    }
+}
+
+// The data pages of bank 0, the three special pages behind its first information page, the data pages of bank 1.
+pub fn wipe(image: &mut [u32], d: u32)
+    requires { ⌜ length (now image) ≡ imageWords d ⌝ }
+    ensures { λ _. ⌜ now (image .exit) ≡ wiped d 0 (now (image .entry)) ⌝ }
+{
+    let pages = d as usize;
+    erase_range(image, 0, pages * 256);
+    erase_range(image, (pages + 1) * 256, (pages + 4) * 256);
+    erase_range(image, (pages + 13) * 256, (2 * pages + 13) * 256);
+}
