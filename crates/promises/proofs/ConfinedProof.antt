@@ -1,9 +1,9 @@
 -- Confinement: a protected page keeps every word. Assumes nothing.
-use Prim.Native.Nat.{ℕ, _/_, _<_}
+use Prim.Native.Nat.{ℕ, zero, suc, _/_, _<_}
+use native.Mathlib.Omega.{arith}
 use mathlib.Core.Path.{_≡_, refl, sym, _∙_}
 use mathlib.Core.Bool.{Bool, true, false, _&&_, _||_, not, and-false, true≢false}
-use mathlib.Core.List.{[], _∷_}
-use mathlib.Core.Logic.{⊎-elim}
+use mathlib.Core.List.{List, [], _∷_}
 use lib.ListN.{getD}
 use borrow.Author.Tests.{eqb-true}
 use Rattle.model.specs.Kinds.{isProgram, isPageErase, isBankErase, rightNeeded, programRight, eraseRight}
@@ -14,6 +14,7 @@ use Rattle.model.specs.Refusals.{accepts}
 use Rattle.model.specs.Checks.{operationAnswer}
 use Rattle.model.specs.Valid.{valid}
 use Rattle.model.specs.Steps.{step}
+use Rattle.model.specs.Whole.{whole}
 use Rattle.model.specs.declared.ImagePage.{ImagePage}
 use Rattle.model.specs.declared.Operation.{Operation}
 use Rattle.model.specs.declared.Work.the-variants.{Program, Erase}
@@ -24,10 +25,12 @@ use Rattle.model.proofs.Flashes.{other-page}
 use Rattle.model.proofs.Order.{pages-bound}
 use Rattle.model.proofs.Moving.{busy-parts}
 use Rattle.model.proofs.StepLaws.{StepLeaves, same, programs, erases, step-leaves}
+use Rattle.plans.proofs.Firsts.{storedFirst}
 use Rattle.promises.specs.Calls.{Call, State, perform}
 use Rattle.promises.specs.Confined.{bankOfPage, rightsOfPage, protected, wordsOf, isRma, Confined}
 use Rattle.promises.proofs.Validity.{call-keeps}
-use Rattle.promises.proofs.FlashLaws.{flash-touched}
+use Rattle.promises.proofs.FlashLaws.{Touches, same, steps, runs, wipes, flash-touched}
+use Rattle.promises.proofs.WholeLaws.{WholeChanges, same, programs, erases, whole-changes}
 use Rattle.promises.proofs.PageLaws.{place-granted, place-permitted}
 
 -- ---- a page that may be changed is not protected
@@ -95,17 +98,37 @@ step-confined c f q h guard (erases o k r e) =
     rw e (other-page (f .words) (placeOf (c .pages) o k .0) _ (q .0)
     (λ x. true≢false (sym guard ∙ erase-changes c o k q h (w .left) (w .asked) x (w .kind))))
 
--- and so does every call but RMA.
-call-confined : (s : State) (k : Call) (q : ImagePage) → valid (s .controller) ≡ true
-    → (protected (s .controller) q && not (isRma k)) ≡ true → wordsOf (perform s k .state .flash) q ≡ wordsOf (s .flash) q
+-- so does what stores no word of the page,
+stored-confined : (d : ℕ) (o : Operation) (new : ℕ → ℕ → ℕ) (f : Flash) (q : ImagePage) (n : ℕ)
+    → ((k : ℕ) → k < n → placeOf d o k .0 / 256 ≡ q .0 → ⊥) → wordsOf (storedFirst d o new n f) q ≡ wordsOf f q
+unfolding storedFirst
+stored-confined d o new f q zero away = refl
+stored-confined d o new f q (suc n) away =
+    other-page (storedFirst d o new n f .words) (placeOf d o n .0) _ (q .0) (away n (omega arith))
+    ∙ stored-confined d o new f q n (λ k h. away k (omega arith))
+
+-- hence a whole operation,
+whole-confined : (c : Controller) (f : Flash) (o : Operation) (b : List ℕ) (q : ImagePage) → valid c ≡ true
+    → protected c q ≡ true → WholeChanges c f o b → wordsOf (whole c f o b .flash) q ≡ wordsOf f q
+whole-confined c f o b q h guard (same e) = rw e
+whole-confined c f o b q h guard (programs a p e) =
+    rw e (stored-confined (c .pages) o _ f q (totalWords (c .pages) o)
+    (λ k some x. true≢false (sym guard ∙ program-changes c o k q h some a x p)))
+whole-confined c f o b q h guard (erases a p e) =
+    rw e (stored-confined (c .pages) o _ f q (totalWords (c .pages) o)
+    (λ k some x. true≢false (sym guard ∙ erase-changes c o k q h some a x p)))
+
+-- and every call but RMA.
+call-confined : (s : State) {k : Call} (q : ImagePage) → valid (s .controller) ≡ true
+    → (protected (s .controller) q && not (isRma k)) ≡ true → Touches s k
+    → wordsOf (perform s k .state .flash) q ≡ wordsOf (s .flash) q
 unfolding perform
-call-confined s k q h guard =
-    let safe = and-left (protected (s .controller) q) _ guard in
-    ⊎-elim (λ e. rw e)
-    (⊎-elim
-    (λ e. rw e (step-confined (s .controller) (s .flash) q h safe (step-leaves _ _)))
-    (λ e. absurd (true≢false (sym (rw e at (and-right (protected (s .controller) q) (not (isRma k)) guard))))))
-    (flash-touched s k)
+call-confined s q h guard (same e) = rw e
+call-confined s q h guard steps =
+    step-confined (s .controller) (s .flash) q h (and-left (protected (s .controller) q) _ guard) (step-leaves _ _)
+call-confined s q h guard (runs o b) =
+    whole-confined (s .controller) (s .flash) o _ q h (and-left (protected (s .controller) q) _ guard) (whole-changes _ _ o _)
+call-confined s q h guard wipes = absurd (true≢false (sym (and-right (protected (s .controller) q) _ guard)))
 
 -- Call by call.
 pub confined : Confined
@@ -113,4 +136,4 @@ confined s [] q shaped h guard = refl
 confined s (k ∷ ks) q shaped h guard =
     let now : Bool = protected (s .controller) q && not (isRma k) in
     let kept = call-keeps s k shaped h in
-    confined (perform s k .state) ks q (kept .0) (kept .1) (and-right now _ guard) ∙ call-confined s k q h (and-left now _ guard)
+    confined (perform s k .state) ks q (kept .0) (kept .1) (and-right now _ guard) ∙ call-confined s q h (and-left now _ guard) (flash-touched s k)

@@ -1,23 +1,32 @@
 -- Which calls may change the flash. Assumes nothing.
+use Prim.Native.Nat.{ℕ}
 use mathlib.Core.Path.{_≡_, refl}
-use mathlib.Core.Logic.{_⊎_, inl, inr}
-use Rattle.promises.specs.Calls.{Call, State, Reset, SetInputs, SetRegion, SetDefault, SetInfo, SetErase, Initialise, Start, Step, Push, Pop, HostRead, ViewPage, Clear, Rma, perform}
+use mathlib.Core.List.{List}
+use Rattle.model.specs.declared.Operation.{Operation}
+use Rattle.promises.specs.Calls.{Call, State, Reset, SetInputs, SetRegion, SetDefault, SetInfo, SetErase, Initialise, Start, Step, Push, Pop, Whole, HostRead, ViewPage, Clear, Rma, perform}
 
--- Only a step and RMA may change the flash.
-pub flash-touched : (s : State) (k : Call) → (perform s k .state .flash ≡ s .flash) ⊎ ((k ≡ Step) ⊎ (k ≡ Rma))
+-- Only a step, a whole operation and RMA may change the flash.
+pub data Touches (s : State) : Call → Type 0 where
+  same : {k : Call} → perform s k .state .flash ≡ s .flash → Touches s k
+  steps : Touches s Step
+  runs : (o : Operation) (b : List ℕ) → Touches s (Whole o b)
+  wipes : Touches s Rma
+
+pub flash-touched : (s : State) (k : Call) → Touches s k
 unfolding perform
-flash-touched s (Reset d) = inl refl
-flash-touched s (SetInputs i) = inl refl
-flash-touched s (SetRegion n g) = inl refl
-flash-touched s (SetDefault r) = inl refl
-flash-touched s (SetInfo bank t page p) = inl refl
-flash-touched s (SetErase bank on) = inl refl
-flash-touched s Initialise = inl refl
-flash-touched s (Start o) = inl refl
-flash-touched s Step = inr (inl refl)
-flash-touched s (Push w) = inl refl
-flash-touched s Pop = inl refl
-flash-touched s (HostRead a) = inl refl
-flash-touched s (ViewPage p) = inl refl
-flash-touched s Clear = inl refl
-flash-touched s Rma = inr (inr refl)
+flash-touched s (Reset d) = same refl
+flash-touched s (SetInputs i) = same refl
+flash-touched s (SetRegion n g) = same refl
+flash-touched s (SetDefault r) = same refl
+flash-touched s (SetInfo bank t page p) = same refl
+flash-touched s (SetErase bank on) = same refl
+flash-touched s Initialise = same refl
+flash-touched s (Start o) = same refl
+flash-touched s Step = steps
+flash-touched s (Push w) = same refl
+flash-touched s Pop = same refl
+flash-touched s (Whole o b) = runs o b
+flash-touched s (HostRead a) = same refl
+flash-touched s (ViewPage p) = same refl
+flash-touched s Clear = same refl
+flash-touched s Rma = wipes

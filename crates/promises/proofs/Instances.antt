@@ -14,12 +14,13 @@ use Rattle.model.specs.Valid.{settingsFit, workFits, runningFits, valid, validW
 use Rattle.model.specs.Errors.{recorded}
 use Rattle.model.specs.Settings.{setRegion}
 use Rattle.model.specs.Lifecycle.{initialiseAnswer, initialise}
-use Rattle.model.specs.Steps.{startAnswer, start, pushAnswer, push, stalls, advance, stepProgress, step}
+use Rattle.model.specs.Steps.{startAnswer, start, pushAnswer, push, popAnswer, pop, stalls, advance, stepProgress, step}
+use Rattle.model.specs.Whole.{turn, turns, wholeAnswer, drive, whole}
 use Rattle.model.specs.Bench.{region, op}
 use Rattle.model.specs.declared.Operation.{Operation}
 use Rattle.model.specs.declared.Work.the-variants.{Read}
 use Rattle.model.specs.declared.Progress.the-variants.{Running}
-use Rattle.promises.specs.Calls.{Call, State, Shaped, SetRegion, Initialise, Start, Step, Push, perform, run}
+use Rattle.promises.specs.Calls.{Call, State, Shaped, SetRegion, Initialise, Start, Step, Push, Whole, perform, run}
 use Rattle.promises.specs.Confined.{rightsOfPage, protected, protectedAlong, bitOf}
 use Rattle.promises.specs.Counted.{wordsLeft}
 use Rattle.promises.specs.Unknown.{stateOf}
@@ -28,9 +29,13 @@ use Rattle.promises.specs.Unknown.{stateOf}
 abbrev fresh : State
 fresh = stateOf (freshController 10) (record { words = 0 ∷ replicate 11775 allOnes })
 
--- All rights on page 0 alone, initialised, and an operation started.
+-- All rights on page 0 alone, and initialised;
+abbrev opening : List Call
+opening = SetRegion 0 (region true 0 1 7) ∷ Initialise ∷ []
+
+-- then an operation started.
 abbrev calls : Operation → List Call
-calls o = SetRegion 0 (region true 0 1 7) ∷ Initialise ∷ Start o ∷ []
+calls o = opening ++ (Start o ∷ [])
 
 abbrev reached : Operation → State
 reached o = run fresh (calls o)
@@ -62,11 +67,16 @@ pub record Met : Type 0 where
   pub refused : perform (reached erase) (Start read) .reply .answer ≡ 4
   -- a pushed word is the one that a step programs
   pub stores : getD (run (reached program) (Push 5 ∷ Step ∷ []) .flash .words) 1 0 ≡ 5
+  -- whole operations: the buffer's word is programmed, the 0 bit becomes 1, the denied read puts ones into its one place
+  pub whole-stores : getD (run fresh (opening ++ (Whole program (5 ∷ []) ∷ [])) .flash .words) 1 0 ≡ 5
+  pub whole-high : bitOf (run fresh (opening ++ (Whole erase [] ∷ [])) .flash) 0 0 ≡ 1
+  pub whole-denied : perform (run fresh opening) (Whole read (5 ∷ 6 ∷ [])) .reply .answer ≡ 9
+  pub whole-blank : perform (run fresh opening) (Whole read (5 ∷ 6 ∷ [])) .reply .buffer ≡ allOnes ∷ 6 ∷ []
   -- `BlankUnknown`: the read of page 1 is in progress, blank
   pub blank : reached read .controller .progress ≡ Running (Read read 0 0)
 
 pub met : Met
-unfolding imagePage wordAt programmed totalWords placeOf held queueOf pushed oldest popped leading dataRights rightsAt allowedWords denied readableWords malformed outOfRange crossesWindow operationAnswer settingsFit workFits runningFits valid validWith recorded setRegion initialiseAnswer initialise startAnswer start pushAnswer push stalls advance stepProgress step perform rightsOfPage protected
+unfolding imagePage wordAt programmed totalWords placeOf held queueOf pushed oldest popped leading dataRights rightsAt allowedWords denied readableWords malformed outOfRange crossesWindow operationAnswer settingsFit workFits runningFits valid validWith recorded setRegion initialiseAnswer initialise startAnswer start pushAnswer push stalls advance stepProgress step popAnswer pop turn turns wholeAnswer drive whole perform rightsOfPage protected
 met = record {
   shaped = record { regions = refl; info = refl; erase = refl; reads = refl; programs = refl };
   ours = refl;
@@ -77,5 +87,9 @@ met = record {
   high = refl;
   refused = refl;
   stores = refl;
+  whole-stores = refl;
+  whole-high = refl;
+  whole-denied = refl;
+  whole-blank = refl;
   blank = refl;
 }

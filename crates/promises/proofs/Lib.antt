@@ -7,9 +7,11 @@ pub mod KeepPhases
 pub mod KeepQueues
 pub mod KeepSteps
 pub mod KeepStart
+pub mod KeepWholes
 pub mod Validity
 -- the others
 pub mod FlashLaws
+pub mod WholeLaws
 pub mod PageLaws
 pub mod RefusedProof
 pub mod UnknownProof

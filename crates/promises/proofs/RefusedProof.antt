@@ -18,8 +18,9 @@ use Rattle.model.specs.declared.Controller.{Controller}
 use Rattle.model.proofs.Bool.{by-test}
 use Rattle.model.proofs.Answers.{accepts-not, unrecorded, recorded-if-refused}
 use Rattle.model.proofs.StepLaws.{blank-work, start-goes-on, start-stops, step-refused}
-use Rattle.promises.specs.Calls.{Reset, SetInputs, SetRegion, SetDefault, SetInfo, SetErase, Initialise, Start, Step, Push, Pop, HostRead, ViewPage, Clear, Rma, perform}
+use Rattle.promises.specs.Calls.{Reset, SetInputs, SetRegion, SetDefault, SetInfo, SetErase, Initialise, Start, Step, Push, Pop, Whole, HostRead, ViewPage, Clear, Rma, perform}
 use Rattle.promises.specs.Refused.{leftBy, RefusedMovesNothing}
+use Rattle.promises.proofs.WholeLaws.{whole-left}
 
 -- A start refused with 5, 7, 8 or 9 starts nothing but a denied read, blank;
 progress-left : (c : Controller) (o : Operation) → accepts (operationAnswer c o) ≡ false
@@ -62,6 +63,8 @@ refused-moves-nothing s Step h =
     let e = step-refused (s .controller) (s .flash) h in record { flash = rw e; controller = rw e; reply = rw e }
 refused-moves-nothing s (Push w) h = record { flash = refl; controller = rw (accepts-not _ h); reply = refl }
 refused-moves-nothing s Pop h = record { flash = refl; controller = rw (accepts-not _ h); reply = rw (accepts-not _ h) }
+refused-moves-nothing s (Whole o b) h =
+    let e = whole-left (s .controller) (s .flash) o b h in record { flash = rw e; controller = rw e; reply = rw e }
 refused-moves-nothing s (HostRead a) h = record { flash = refl; controller = refl; reply = rw (accepts-not _ h) }
 refused-moves-nothing s (ViewPage p) h = record { flash = refl; controller = refl; reply = rw (accepts-not _ h) }
 refused-moves-nothing s Clear h = record { flash = refl; controller = rw (accepts-not _ h); reply = refl }

@@ -1,11 +1,10 @@
 -- A 0 bit becomes 1 only by an erase or RMA that covers it. Assumes nothing.
-use Prim.Native.Nat.{ℕ, _/_, _%_, _^_, _<_, _≤_}
+use Prim.Native.Nat.{ℕ, zero, suc, _/_, _%_, _^_, _<_, _≤_}
 use native.Mathlib.Nat.{zero-add, min-le-left}
 use native.Mathlib.Omega.{arith}
 use mathlib.Core.Path.{_≡_, sym, _∙_}
 use mathlib.Core.Bool.{true}
 use mathlib.Core.List.{List}
-use mathlib.Core.Logic.{⊎-elim}
 use lib.Dec.{eqb, ltb}
 use lib.ListN.{length, getD, set}
 use lib.Seq.{set-out, getD-set-same, getD-set-other}
@@ -13,17 +12,22 @@ use borrow.Author.Tests.{ltb-true, ltb-false, eqb-true, eqb-false}
 use Rattle.model.specs.Words.{programmed}
 use Rattle.model.specs.Refusals.{accepts}
 use Rattle.model.specs.Lifecycle.{isWiped, rmaAnswer, rma}
-use Rattle.model.specs.Places.{placeOf}
+use Rattle.model.specs.Places.{totalWords, placeOf}
 use Rattle.model.specs.Steps.{step}
+use Rattle.model.specs.Whole.{whole}
+use Rattle.model.specs.declared.Operation.{Operation}
 use Rattle.model.specs.declared.Controller.{Controller}
 use Rattle.model.specs.State.{Flash}
 use Rattle.model.proofs.Bool.{by-test}
 use Rattle.model.proofs.Words.{programmed-bit}
 use Rattle.model.proofs.Lifecycle.{wiped-other}
 use Rattle.model.proofs.StepLaws.{StepLeaves, same, programs, erases, step-leaves}
-use Rattle.promises.specs.Calls.{perform}
-use Rattle.promises.specs.Confined.{bitOf, stepErases, RisesByErase}
-use Rattle.promises.proofs.FlashLaws.{flash-touched}
+use Rattle.plans.specs.Plan.{programming, erasing}
+use Rattle.plans.proofs.Firsts.{storedFirst}
+use Rattle.promises.specs.Calls.{Call, State, perform}
+use Rattle.promises.specs.Confined.{bitOf, stepErases, hasWordAt, wholeErases, erasesPlace, RisesByErase}
+use Rattle.promises.proofs.FlashLaws.{Touches, same, steps, runs, wipes, flash-touched}
+use Rattle.promises.proofs.WholeLaws.{WholeChanges, same, programs, erases, whole-changes}
 
 -- A bit is not both 0 and 1.
 never : {b : ℕ} → b ≡ 0 → b ≡ 1 → ⊥
@@ -62,6 +66,34 @@ step-rises c f place bit (erases o k r e) h i =
     absurd (never h (rw (e, getD-set-other) at i))) in
     rw r covers
 
+-- the programs of a whole operation keep a 0 bit 0,
+programs-keep : (d : ℕ) (o : Operation) (b : List ℕ) (f : Flash) (place bit n : ℕ) → bitOf f place bit ≡ 0
+    → bitOf (storedFirst d o (programming b) n f) place bit ≡ 0
+unfolding storedFirst
+programs-keep d o b f place bit zero h = h
+programs-keep d o b f place bit (suc n) h =
+    program-keeps (storedFirst d o (programming b) n f .words) (placeOf d o n .0) _ place bit (programs-keep d o b f place bit n h)
+
+-- its erases raise one only where a word of it is,
+erases-rise : (d : ℕ) (o : Operation) (f : Flash) (place bit n : ℕ) → bitOf f place bit ≡ 0
+    → bitOf (storedFirst d o erasing n f) place bit ≡ 1 → hasWordAt d o n place ≡ true
+unfolding storedFirst
+erases-rise d o f place bit zero h i = absurd (never h i)
+erases-rise d o f place bit (suc n) h i =
+    by-test (eqb (placeOf d o n .0) place) (λ t. rw t)
+    (λ t.
+    let ne : place ≡ placeOf d o n .0 → ⊥ = λ x. eqb-false _ _ t (sym x) in
+    rw t (erases-rise d o f place bit n h (rw getD-set-other at i)))
+
+-- so it raises one only where it erases,
+whole-rises : (c : Controller) (f : Flash) (o : Operation) (b : List ℕ) (place bit : ℕ) → WholeChanges c f o b
+    → bitOf f place bit ≡ 0 → bitOf (whole c f o b .flash) place bit ≡ 1 → wholeErases (c .pages) o place ≡ true
+whole-rises c f o b place bit (same e) h i = absurd (never h (rw e at i))
+whole-rises c f o b place bit (programs a p e) h i =
+    absurd (never (programs-keep (c .pages) o b f place bit (totalWords (c .pages) o) h) (rw e at i))
+whole-rises c f o b place bit (erases a p e) h i =
+    rw p (erases-rise (c .pages) o f place bit (totalWords (c .pages) o) h (rw e at i))
+
 -- and RMA only where it wipes.
 rma-rises : (c : Controller) (f : Flash) (place bit : ℕ) → bitOf f place bit ≡ 0 → bitOf (rma c f .flash) place bit ≡ 1
     → isWiped (c .pages) (record { 0 = place }) ≡ true
@@ -74,11 +106,13 @@ rma-rises c f place bit h i =
     (λ a. absurd (never h (rw a at i))))
 
 -- No other call changes the flash.
-pub rises-by-erase : RisesByErase
+call-rises : (s : State) {k : Call} (place bit : ℕ) → Touches s k → bitOf (s .flash) place bit ≡ 0
+    → bitOf (perform s k .state .flash) place bit ≡ 1 → erasesPlace (s .controller) k place ≡ true
 unfolding perform
-rises-by-erase s k place bit h i =
-    ⊎-elim (λ e. absurd (never h (rw e at i)))
-    (⊎-elim
-    (λ e. rw e (step-rises (s .controller) (s .flash) place bit (step-leaves _ _) h (rw e at i)))
-    (λ e. rw e (rma-rises (s .controller) (s .flash) place bit h (rw e at i))))
-    (flash-touched s k)
+call-rises s place bit (same e) h i = absurd (never h (rw e at i))
+call-rises s place bit steps h i = step-rises (s .controller) (s .flash) place bit (step-leaves _ _) h i
+call-rises s place bit (runs o b) h i = whole-rises (s .controller) (s .flash) o _ place bit (whole-changes _ _ o _) h i
+call-rises s place bit wipes h i = rma-rises (s .controller) (s .flash) place bit h i
+
+pub rises-by-erase : RisesByErase
+rises-by-erase s k place bit h i = call-rises s place bit (flash-touched s k) h i

@@ -5,7 +5,7 @@ use mathlib.Core.List.{[], _∷_}
 use Rattle.model.specs.Lifecycle.{reset}
 use Rattle.model.specs.Host.{hostRead}
 use Rattle.model.specs.Valid.{valid}
-use Rattle.promises.specs.Calls.{Call, State, Shaped, Reset, SetInputs, SetRegion, SetDefault, SetInfo, SetErase, Initialise, Start, Step, Push, Pop, HostRead, ViewPage, Clear, Rma, perform}
+use Rattle.promises.specs.Calls.{Call, State, Shaped, Reset, SetInputs, SetRegion, SetDefault, SetInfo, SetErase, Initialise, Start, Step, Push, Pop, Whole, HostRead, ViewPage, Clear, Rma, perform}
 use Rattle.promises.specs.Validity.{ValidStays, ResetIsValid}
 use Rattle.promises.proofs.Fields.{Valid, parts, together}
 use Rattle.promises.proofs.KeepSettings.{inputs-keep, region-keeps, default-keeps, page-keeps, erase-keeps}
@@ -13,6 +13,7 @@ use Rattle.promises.proofs.KeepPhases.{fresh-valid, reset-keeps, initia
 use Rattle.promises.proofs.KeepQueues.{push-keeps, pop-keeps}
 use Rattle.promises.proofs.KeepSteps.{step-keeps}
 use Rattle.promises.proofs.KeepStart.{start-keeps}
+use Rattle.promises.proofs.KeepWholes.{whole-keeps}
 
 -- Each call leaves a valid state valid,
 pub perform-keeps : (s : State) (k : Call) → Valid (s .controller) → Valid (perform s k .state .controller)
@@ -28,6 +29,7 @@ perform-keeps s (Start o) v = start-keeps (s .controller) o v
 perform-keeps s Step v = step-keeps (s .controller) (s .flash) v
 perform-keeps s (Push w) v = push-keeps (s .controller) v _
 perform-keeps s Pop v = pop-keeps (s .controller) v
+perform-keeps s (Whole o b) v = whole-keeps (s .controller) (s .flash) o _ v
 perform-keeps s (HostRead a) v = v
 perform-keeps s (ViewPage p) v = v
 perform-keeps s Clear v = clear-keeps (s .controller) v

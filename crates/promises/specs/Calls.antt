@@ -12,6 +12,7 @@ use Rattle.model.specs.Settings.{setInputs, setRegion, setDefault, setInfo, set
 use Rattle.model.specs.Lifecycle.{reset, initialise, rma, noSeeds}
 use Rattle.model.specs.Steps.{start, push, pop, step}
 use Rattle.model.specs.Host.{View, hostRead, view}
+use Rattle.model.specs.Whole.{WholeLeaves, whole}
 use Rattle.model.specs.declared.Page.{Page}
 use Rattle.model.specs.declared.ByteAddress.{ByteAddress}
 use Rattle.model.specs.declared.Inputs.{Inputs}
@@ -27,7 +28,7 @@ use Rattle.model.specs.declared.Movement.the-variants.{None}
 use Rattle.model.specs.declared.Seeds.{Seeds}
 use Rattle.model.specs.declared.Initialised.{Initialised}
 
--- The calls of 01, 'What may be asked', but for whole operations.
+-- The calls of 01, 'What may be asked'. A whole operation is lent a buffer.
 pub data Call : Type 0 where
   Reset : ℕ → Call
   SetInputs : Inputs → Call
@@ -40,12 +41,14 @@ pub data Call : Type 0 where
   Step : Call
   Push : ℕ → Call
   Pop : Call
+  Whole : Operation → List ℕ → Call
   HostRead : ByteAddress → Call
   ViewPage : Page → Call
   Clear : Call
   Rma : Call
 
 -- What a caller is told: the answer's number, and what comes with it (nothing, 0 or empty where a call has no such thing).
+-- `buffer` is the lent buffer after a whole operation.
 pub record Reply : Type 0 where
   pub answer : ℕ
   pub movement : Movement
@@ -53,6 +56,7 @@ pub record Reply : Type 0 where
   pub word : ℕ
   pub seeds : Seeds
   pub view : View
+  pub buffer : List ℕ
 
 pub record Performed : Type 0 where
   pub state : State
@@ -62,7 +66,7 @@ abbrev pub noView : View
 noView = record { number = 0; start = record { 0 = 0 }; words = [] }
 
 abbrev pub told : ℕ → Reply
-told n = record { answer = n; movement = None; bits = 0; word = 0; seeds = noSeeds; view = noView }
+told n = record { answer = n; movement = None; bits = 0; word = 0; seeds = noSeeds; view = noView; buffer = [] }
 
 abbrev pub byOutcome : Flash → Outcome → Performed
 byOutcome f r = record { state = record { controller = r .controller; flash = f }; reply = told (numberOf (r .answer)) }
@@ -77,6 +81,7 @@ byFetch f r = record {
     word = r .word;
     seeds = noSeeds;
     view = noView;
+    buffer = [];
   };
 }
 
@@ -90,6 +95,7 @@ byStep l = record {
     word = 0;
     seeds = noSeeds;
     view = noView;
+    buffer = [];
   };
 }
 
@@ -103,13 +109,28 @@ byInitialise f r = record {
     word = 0;
     seeds = r .seeds;
     view = noView;
+    buffer = [];
   };
 }
 
 abbrev pub byView : State → View → Performed
 byView s v = record {
   state = s;
-  reply = record { answer = v .number; movement = None; bits = 0; word = 0; seeds = noSeeds; view = v };
+  reply = record { answer = v .number; movement = None; bits = 0; word = 0; seeds = noSeeds; view = v; buffer = [] };
+}
+
+abbrev pub byWhole : WholeLeaves → Performed
+byWhole l = record {
+  state = record { controller = l .result .controller; flash = l .flash };
+  reply = record {
+    answer = numberOf (l .result .answer);
+    movement = None;
+    bits = l .result .bits;
+    word = 0;
+    seeds = noSeeds;
+    view = noView;
+    buffer = l .buffer;
+  };
 }
 
 unfoldable pub perform : State → Call → Performed
@@ -124,6 +145,7 @@ perform s (Start o) = byOutcome (s .flash) (start (s .controller) o)
 perform s Step = byStep (step (s .controller) (s .flash))
 perform s (Push w) = byOutcome (s .flash) (push (s .controller) w)
 perform s Pop = byFetch (s .flash) (pop (s .controller))
+perform s (Whole o b) = byWhole (whole (s .controller) (s .flash) o b)
 perform s (HostRead a) = byFetch (s .flash) (hostRead (s .controller) (s .flash) a)
 perform s (ViewPage p) = byView s (view (s .controller) (s .flash) p)
 perform s Clear = byOutcome (s .flash) (clear (s .controller))

@@ -1,25 +1,26 @@
 -- Confinement: a page that may be neither programmed nor erased keeps every word, and a 0 bit becomes 1 only by an erase
 -- or RMA that covers it.
-use Prim.Native.Nat.{ℕ, _-_, _*_, _+_, _/_, _%_, _^_}
+use Prim.Native.Nat.{ℕ, zero, suc, _-_, _*_, _+_, _/_, _%_, _^_}
 use mathlib.Core.Path.{_≡_}
-use mathlib.Core.Bool.{Bool, true, false, _&&_, not, cond}
+use mathlib.Core.Bool.{Bool, true, false, _&&_, _||_, not, cond}
 use mathlib.Core.List.{List, [], _∷_}
 use lib.Dec.{eqb}
 use lib.ListN.{getD}
 use Rattle.model.specs.Geometry.{bankPages}
-use Rattle.model.specs.Kinds.{programRight, eraseRight}
-use Rattle.model.specs.Places.{placeOf}
+use Rattle.model.specs.Kinds.{isPageErase, isBankErase, programRight, eraseRight}
+use Rattle.model.specs.Places.{totalWords, placeOf}
 use Rattle.model.specs.State.{Flash}
 pub use Rattle.model.specs.State.{wordsOf}
 use Rattle.model.specs.Rights.{grants, dataRights, infoRights}
 use Rattle.model.specs.Lifecycle.{isData, isWiped}
 use Rattle.model.specs.Valid.{valid}
 use Rattle.model.specs.declared.ImagePage.{ImagePage}
+use Rattle.model.specs.declared.Operation.{Operation}
 use Rattle.model.specs.declared.Work.the-variants.{Read, Program, Erase}
 use Rattle.model.specs.declared.Progress.{Progress}
 use Rattle.model.specs.declared.Progress.the-variants.{Idle, Running}
 use Rattle.model.specs.declared.Controller.{Controller}
-use Rattle.promises.specs.Calls.{Call, State, Shaped, Reset, SetInputs, SetRegion, SetDefault, SetInfo, SetErase, Initialise, Start, Step, Push, Pop, HostRead, ViewPage, Clear, Rma, perform, run}
+use Rattle.promises.specs.Calls.{Call, State, Shaped, Reset, SetInputs, SetRegion, SetDefault, SetInfo, SetErase, Initialise, Start, Step, Push, Pop, Whole, HostRead, ViewPage, Clear, Rma, perform, run}
 
 -- ---- a page of the image: its bank and its rights
 
@@ -60,6 +61,7 @@ isRma (Start o) = false
 isRma Step = false
 isRma (Push w) = false
 isRma Pop = false
+isRma (Whole o b) = false
 isRma (HostRead a) = false
 isRma (ViewPage p) = false
 isRma Clear = false
@@ -87,6 +89,15 @@ stepErases d (Running (Read o k readable)) place = false
 stepErases d (Running (Program o k)) place = false
 stepErases d (Running (Erase o k)) place = eqb (placeOf d o k .0) place
 
+-- One of the first n words of an operation is at the place.
+abbrev pub hasWordAt : ℕ → Operation → ℕ → ℕ → Bool
+hasWordAt d o zero place = false
+hasWordAt d o (suc n) place = eqb (placeOf d o n .0) place || hasWordAt d o n place
+
+-- A whole erase erases the places of all its words.
+abbrev pub wholeErases : ℕ → Operation → ℕ → Bool
+wholeErases d o place = (isPageErase o || isBankErase o) && hasWordAt d o (totalWords d o) place
+
 abbrev pub erasesPlace : Controller → Call → ℕ → Bool
 erasesPlace c (Reset d) place = false
 erasesPlace c (SetInputs i) place = false
@@ -99,6 +110,7 @@ erasesPlace c (Start o) place = false
 erasesPlace c Step place = stepErases (c .pages) (c .progress) place
 erasesPlace c (Push w) place = false
 erasesPlace c Pop place = false
+erasesPlace c (Whole o b) place = wholeErases (c .pages) o place
 erasesPlace c (HostRead a) place = false
 erasesPlace c (ViewPage p) place = false
 erasesPlace c Clear place = false

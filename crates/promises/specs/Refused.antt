@@ -1,25 +1,42 @@
 -- A refused call moves no flash, and leaves the controller and its reply exactly as 01's table says.
 use Prim.Native.Nat.{ℕ}
 use mathlib.Core.Path.{_≡_}
-use mathlib.Core.Bool.{_&&_, cond}
-use mathlib.Core.List.{[]}
+use mathlib.Core.Bool.{Bool, _&&_, cond}
+use mathlib.Core.List.{List, [], _++_}
 use lib.Dec.{eqb}
+use lib.ListN.{drop, replicate}
+use Rattle.model.specs.Words.{allOnes}
 use Rattle.model.specs.Kinds.{isRead}
-use Rattle.model.specs.State.{withErrors, withProgress}
+use Rattle.model.specs.Queue.{emptyQueue}
+use Rattle.model.specs.State.{withErrors, withProgress, withQueues, withReads}
 use Rattle.model.specs.Errors.{isRecorded, joined}
 use Rattle.model.specs.declared.Operation.{Operation}
 use Rattle.model.specs.declared.Work.the-variants.{Read}
 use Rattle.model.specs.declared.Progress.the-variants.{Running}
 use Rattle.model.specs.declared.Controller.{Controller}
-use Rattle.promises.specs.Calls.{Call, State, Reply, Reset, SetInputs, SetRegion, SetDefault, SetInfo, SetErase, Initialise, Start, Step, Push, Pop, HostRead, ViewPage, Clear, Rma, told, perform}
+use Rattle.promises.specs.Calls.{Call, State, Reply, Reset, SetInputs, SetRegion, SetDefault, SetInfo, SetErase, Initialise, Start, Step, Push, Pop, Whole, HostRead, ViewPage, Clear, Rma, noView, told, perform}
 
--- Recorded: the error's kind joins the recorded kinds, its address becomes the last one. A denied read still starts, blank.
+-- A denied read (9) is refused and still runs, blank: it delivers ones.
+abbrev pub isBlank : Operation → ℕ → Bool
+isBlank o n = isRead o && eqb n 9
+
+-- Recorded: the error's kind joins the recorded kinds, its address becomes the last one.
 abbrev pub recordedBy : Controller → Operation → ℕ → Controller
-recordedBy c o n =
-    withProgress (withErrors c (joined n (o .address) (c .errors)))
-    (cond (isRead o && eqb n 9) (Running (Read o 0 0)) (c .progress))
+recordedBy c o n = withErrors c (joined n (o .address) (c .errors))
 
--- What refusal n leaves of the controller: of a start, 5, 7, 8 and 9 are recorded. Else all is unchanged.
+-- A start that is recorded has started nothing but a blank read.
+abbrev pub startedBy : Controller → Operation → ℕ → Controller
+startedBy c o n = withProgress (recordedBy c o n) (cond (isBlank o n) (Running (Read o 0 0)) (c .progress))
+
+-- A whole operation that is recorded has run nothing but a blank read, whose words went through the read queue.
+abbrev pub drivenBy : Controller → Operation → ℕ → Controller
+drivenBy c o n = withQueues (recordedBy c o n) (cond (isBlank o n) (withReads (c .queues) emptyQueue) (c .queues))
+
+-- The lent buffer: a blank read puts ones into its first n places, any other refusal leaves it as it was.
+abbrev pub bufferBy : Operation → List ℕ → ℕ → List ℕ
+bufferBy o b n = cond (isBlank o n) (replicate (o .count) allOnes ++ drop (o .count) b) b
+
+-- What refusal n leaves of the controller: 5, 7, 8 and 9 of an operation are recorded. Else all is unchanged.
 abbrev pub leftBy : Controller → Call → ℕ → Controller
 leftBy c (Reset d) n = c
 leftBy c (SetInputs i) n = c
@@ -28,16 +45,18 @@ leftBy c (SetDefault r) n = c
 leftBy c (SetInfo bank t page p) n = c
 leftBy c (SetErase bank on) n = c
 leftBy c Initialise n = c
-leftBy c (Start o) n = cond (isRecorded n) (recordedBy c o n) c
+leftBy c (Start o) n = cond (isRecorded n) (startedBy c o n) c
 leftBy c Step n = c
 leftBy c (Push w) n = c
 leftBy c Pop n = c
+leftBy c (Whole o b) n = cond (isRecorded n) (drivenBy c o n) c
 leftBy c (HostRead a) n = c
 leftBy c (ViewPage p) n = c
 leftBy c Clear n = c
 leftBy c Rma n = c
 
--- Any refusal gives its number and otherwise a word of 0, a bit count of 0, no seeds and an empty view.
+-- Any refusal gives its number and otherwise a word of 0, a bit count of 0, no seeds and an empty view; a whole operation's
+-- comes with its buffer.
 abbrev pub refusedReply : Call → ℕ → Reply
 refusedReply (Reset d) n = told n
 refusedReply (SetInputs i) n = told n
@@ -50,6 +69,15 @@ refusedReply (Start o) n = told n
 refusedReply Step n = told n
 refusedReply (Push w) n = told n
 refusedReply Pop n = told n
+refusedReply (Whole o b) n = record {
+  answer = n;
+  movement = told n .movement;
+  bits = 0;
+  word = 0;
+  seeds = told n .seeds;
+  view = noView;
+  buffer = bufferBy o b n;
+}
 refusedReply (HostRead a) n = told n
 refusedReply (ViewPage p) n = record {
   answer = n;
@@ -58,6 +86,7 @@ refusedReply (ViewPage p) n = record {
   word = 0;
   seeds = told n .seeds;
   view = record { number = n; start = record { 0 = 0 }; words = [] };
+  buffer = [];
 }
 refusedReply Clear n = told n
 refusedReply Rma n = told n
