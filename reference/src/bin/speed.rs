@@ -92,6 +92,7 @@ fn rows() -> Vec<Work> {
     let tables = [
         (By::Parts, 16, &parts[..]),
         (By::Whole, 16, &whole[..]),
+        (By::Parts, 256, &parts[..]),
         (By::Whole, 256, &whole[..]),
     ];
     let row = |by, data_pages, (name, kind, partition, count)| Work {
