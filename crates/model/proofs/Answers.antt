@@ -1,7 +1,9 @@
 -- What an answer says of the checks behind it. Assumes nothing.
+use Prim.Native.Nat.{ℕ}
 use mathlib.Core.Path.{_≡_, refl, sym, _∙_}
 use mathlib.Core.Bool.{Bool, true, false, _||_, not, cond, true≢false}
-use borrow.Author.Tests.{ne-eqb}
+use lib.Dec.{eqb}
+use borrow.Author.Tests.{eqb-true, ne-eqb}
 use Rattle.model.specs.State.{isReady}
 use Rattle.model.specs.Rights.{denied}
 use Rattle.model.specs.Refusals.{numberOf, accepts, isDenied, check, orElse, readyAnswer}
@@ -48,6 +50,11 @@ unrecorded true phase.Uninitialised b = refl
 unrecorded true phase.Ready true = refl
 unrecorded true phase.Ready false = refl
 unrecorded true phase.Disabled b = refl
+
+-- What is not recorded is no 9.
+pub unrecorded-undenied : (n : ℕ) → isRecorded n ≡ false → eqb n 9 ≡ false
+unrecorded-undenied n u =
+    by-test (eqb n 9) (λ t. let e : n ≡ 9 = eqb-true _ _ t in absurd (true≢false (rw e at u))) (λ t. t)
 
 -- ---- checks 5, 7, 8 and 9, as four tests
 

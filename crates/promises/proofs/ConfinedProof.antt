@@ -26,11 +26,11 @@ use Rattle.model.proofs.Order.{pages-bound}
 use Rattle.model.proofs.Moving.{busy-parts}
 use Rattle.model.proofs.StepLaws.{StepLeaves, same, programs, erases, step-leaves}
 use Rattle.plans.proofs.Firsts.{storedFirst}
+use Rattle.plans.proofs.Changes.{WholeChanges, same, programs, erases, whole-changes}
 use Rattle.promises.specs.Calls.{Call, State, perform}
 use Rattle.promises.specs.Confined.{bankOfPage, rightsOfPage, protected, wordsOf, isRma, Confined}
 use Rattle.promises.proofs.Validity.{call-keeps}
 use Rattle.promises.proofs.FlashLaws.{Touches, same, steps, runs, wipes, flash-touched}
-use Rattle.promises.proofs.WholeLaws.{WholeChanges, same, programs, erases, whole-changes}
 use Rattle.promises.proofs.PageLaws.{place-granted, place-permitted}
 
 -- ---- a page that may be changed is not protected

@@ -11,7 +11,7 @@ pub mod KeepWholes
 pub mod Validity
 -- the others
 pub mod FlashLaws
-pub mod WholeLaws
+pub mod RefusedWholes
 pub mod PageLaws
 pub mod RefusedProof
 pub mod UnknownProof

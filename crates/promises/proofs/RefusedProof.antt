@@ -20,7 +20,7 @@ use Rattle.model.proofs.Answers.{accepts-not, unrecorded, recorded-if-refused}
 use Rattle.model.proofs.StepLaws.{blank-work, start-goes-on, start-stops, step-refused}
 use Rattle.promises.specs.Calls.{Reset, SetInputs, SetRegion, SetDefault, SetInfo, SetErase, Initialise, Start, Step, Push, Pop, Whole, HostRead, ViewPage, Clear, Rma, perform}
 use Rattle.promises.specs.Refused.{leftBy, RefusedMovesNothing}
-use Rattle.promises.proofs.WholeLaws.{whole-left}
+use Rattle.promises.proofs.RefusedWholes.{whole-left}
 
 -- A start refused with 5, 7, 8 or 9 starts nothing but a denied read, blank;
 progress-left : (c : Controller) (o : Operation) → accepts (operationAnswer c o) ≡ false

@@ -24,10 +24,10 @@ use Rattle.model.proofs.Lifecycle.{wiped-other}
 use Rattle.model.proofs.StepLaws.{StepLeaves, same, programs, erases, step-leaves}
 use Rattle.plans.specs.Plan.{programming, erasing}
 use Rattle.plans.proofs.Firsts.{storedFirst}
+use Rattle.plans.proofs.Changes.{WholeChanges, same, programs, erases, whole-changes}
 use Rattle.promises.specs.Calls.{Call, State, perform}
 use Rattle.promises.specs.Confined.{bitOf, stepErases, hasWordAt, wholeErases, erasesPlace, RisesByErase}
 use Rattle.promises.proofs.FlashLaws.{Touches, same, steps, runs, wipes, flash-touched}
-use Rattle.promises.proofs.WholeLaws.{WholeChanges, same, programs, erases, whole-changes}
 
 -- A bit is not both 0 and 1.
 never : {b : ℕ} → b ≡ 0 → b ≡ 1 → ⊥

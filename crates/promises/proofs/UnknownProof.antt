@@ -17,10 +17,10 @@ use Rattle.model.specs.declared.Progress.the-variants.{Idle, Running}
 use Rattle.model.specs.declared.Controller.{Controller}
 use Rattle.model.proofs.Bool.{by-test}
 use Rattle.model.proofs.StepLaws.{step-ready, step-unready, running-accepts}
+use Rattle.plans.proofs.Changes.{whole-answers}
 use Rattle.promises.specs.Calls.{Call, Reset, SetInputs, SetRegion, SetDefault, SetInfo, SetErase, Initialise, Start, Step, Push, Pop, Whole, HostRead, ViewPage, Clear, Rma, perform}
 use Rattle.promises.specs.Refused.{leftBy, refusedReply}
 use Rattle.promises.specs.Unknown.{stateOf, RefusedUnknown, BlankUnknown}
-use Rattle.promises.proofs.WholeLaws.{whole-answers}
 use Rattle.promises.proofs.RefusedProof.{refused-moves-nothing}
 
 -- ---- on two images of the same length
