@@ -1,5 +1,6 @@
 // Checks 1 to 4 and 6 of a whole operation.
 ghost use mathlib.Core.Path.{_≡_};
+ghost use Rattle.model.specs.State.{flash};
 ghost use Rattle.model.specs.Whole.{wholeAnswer, shortBuffer};
 use model::Answer;
 use model::Controller;
@@ -7,7 +8,7 @@ use model::Operation;
 
 // Checks 1 to 4: of a whole operation 4 also applies if a queue holds a word.
 pub fn whole_answer(c: Controller, image: &[u32]) -> Answer
-    ensures { λ r. ⌜ r ≡ wholeAnswer c (record { words = now (image .entry) }) ⌝ }
+    ensures { λ r. ⌜ r ≡ wholeAnswer c (flash (now (image .entry))) ⌝ }
 {
     let phase = c.phase;
     let progress = c.progress;

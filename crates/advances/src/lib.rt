@@ -1,5 +1,6 @@
 // One word of the operation in progress moves, by its kind.
 ghost use mathlib.Core.Path.{_≡_};
+ghost use Rattle.model.specs.State.{flash};
 ghost use Rattle.model.specs.Steps.{advance};
 ghost use Rattle.advances.specs.Advances.{Advances};
 use model::Controller;
@@ -9,13 +10,13 @@ use model::Work;
 
 // One word moves, at the operation's next place: of a read, to the read queue.
 fn advance_read(c: Controller, image: &[u32], op: Operation, k: u32, readable: u32) -> Stepped
-    requires { ⌜ Advances c (record { words = now image }) (Work.Read op k readable) ⌝ }
-    ensures { λ r. ⌜ r ≡ advance c (record { words = now (image .entry) }) (Work.Read op k readable) .result ⌝ }
+    requires { ⌜ Advances c (flash (now image)) (Work.Read op k readable) ⌝ }
+    ensures { λ r. ⌜ r ≡ advance c (flash (now (image .entry))) (Work.Read op k readable) .result ⌝ }
 {
     let queues = c.queues;
     let reads = queues.reads;
-    let n = places::total_words(c.pages, op);
-    let place = places::place_of(c.pages, op, k);
+    let n = places::total_words(c.setup.pages, op);
+    let place = places::place_of(c.setup.pages, op, k);
     let word = movement::read_word(image, place, k, readable);
     let next = state::with_reads(queues, queue::push(reads, word));
     let work = Work::Read {
@@ -28,13 +29,13 @@ fn advance_read(c: Controller, image: &[u32], op: Operation, k: u32, readable: u
 
 // Of a program, the oldest queued word is combined with the stored one.
 fn advance_program(c: Controller, image: &mut [u32], op: Operation, k: u32) -> Stepped
-    requires { ⌜ Advances c (record { words = now image }) (Work.Program op k) ⌝ }
-    ensures { λ r. ⌜ record { result = r; flash = record { words = now (image .exit) } } ≡ advance c (record { words = now (image .entry) }) (Work.Program op k) ⌝ }
+    requires { ⌜ Advances c (flash (now image)) (Work.Program op k) ⌝ }
+    ensures { λ r. ⌜ record { result = r; flash = flash (now (image .exit)) } ≡ advance c (flash (now (image .entry))) (Work.Program op k) ⌝ }
 {
     let queues = c.queues;
     let programs = queues.programs;
-    let n = places::total_words(c.pages, op);
-    let place = places::place_of(c.pages, op, k);
+    let n = places::total_words(c.setup.pages, op);
+    let place = places::place_of(c.setup.pages, op, k);
     let word = queue::oldest(programs);
     let bits = words::program_word(image, place, word);
     let next = state::with_programs(queues, queue::pop(programs));
@@ -44,20 +45,20 @@ fn advance_program(c: Controller, image: &mut [u32], op: Operation, k: u32) -> S
 
 // Of an erase, the stored word becomes all ones.
 fn advance_erase(c: Controller, image: &mut [u32], op: Operation, k: u32) -> Stepped
-    requires { ⌜ Advances c (record { words = now image }) (Work.Erase op k) ⌝ }
-    ensures { λ r. ⌜ record { result = r; flash = record { words = now (image .exit) } } ≡ advance c (record { words = now (image .entry) }) (Work.Erase op k) ⌝ }
+    requires { ⌜ Advances c (flash (now image)) (Work.Erase op k) ⌝ }
+    ensures { λ r. ⌜ record { result = r; flash = flash (now (image .exit)) } ≡ advance c (flash (now (image .entry))) (Work.Erase op k) ⌝ }
 {
     let queues = c.queues;
-    let n = places::total_words(c.pages, op);
-    let place = places::place_of(c.pages, op, k);
+    let n = places::total_words(c.setup.pages, op);
+    let place = places::place_of(c.setup.pages, op, k);
     let bits = words::erase_word(image, place);
     let work = Work::Erase { op, moved: k + 1 };
     movement::moved(c, n, k, queues, work, bits)
 }
 
 pub fn advance(c: Controller, image: &mut [u32], w: Work) -> Stepped
-    requires { ⌜ Advances c (record { words = now image }) w ⌝ }
-    ensures { λ r. ⌜ record { result = r; flash = record { words = now (image .exit) } } ≡ advance c (record { words = now (image .entry) }) w ⌝ }
+    requires { ⌜ Advances c (flash (now image)) w ⌝ }
+    ensures { λ r. ⌜ record { result = r; flash = flash (now (image .exit)) } ≡ advance c (flash (now (image .entry))) w ⌝ }
 {
     match w {
         Work::Read {

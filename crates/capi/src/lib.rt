@@ -1,6 +1,7 @@
 // The calls for C and Rust: the controller as a flat struct, by value, and plain numbers and slices beside it.
 // include/lurgabel.h declares them and has the calls that a bench uses. A struct that encodes no state is refused with 1.
 ghost use mathlib.Core.Path.{_≡_};
+ghost use Rattle.model.specs.State.{flash};
 ghost use Rattle.capi.specs.Calls.{resetFlat, setInputsFlat, setRegionFlat, setDefaultFlat, setInfoFlat, setEraseFlat, clearFlat, initialiseFlat, rmaFlat, startFlat, stepFlat, pushFlat, popFlat, runFlat, hostReadFlat, viewFlat};
 use flat::FlatController;
 use flat::FlatOperation;
@@ -95,14 +96,14 @@ pub extern "C" fn lurgabel_value_clear_errors(s: FlatController) -> FlatOutcome
 
 #[no_mangle]
 pub extern "C" fn lurgabel_value_initialise(s: FlatController, image: &[u32]) -> FlatInitialised
-    ensures { λ r. ⌜ r ≡ initialiseFlat s (record { words = now (image .entry) }) ⌝ }
+    ensures { λ r. ⌜ r ≡ initialiseFlat s (flash (now (image .entry))) ⌝ }
 {
     results::initialised_of(s, lifecycle::initialise(encoding::decode(s), image))
 }
 
 #[no_mangle]
 pub extern "C" fn lurgabel_value_rma(s: FlatController, image: &mut [u32]) -> FlatOutcome
-    ensures { λ r. ⌜ record { result = r; flash = record { words = now (image .exit) } } ≡ rmaFlat s (record { words = now (image .entry) }) ⌝ }
+    ensures { λ r. ⌜ record { result = r; flash = flash (now (image .exit)) } ≡ rmaFlat s (flash (now (image .entry))) ⌝ }
 {
     let r = rma::rma(encoding::decode(s), image);
     results::outcome_of(s, r)
@@ -120,7 +121,7 @@ pub extern "C" fn lurgabel_value_start(s: FlatController, operation: FlatOperati
 
 #[no_mangle]
 pub extern "C" fn lurgabel_value_step(s: FlatController, image: &mut [u32]) -> FlatStepped
-    ensures { λ r. ⌜ record { result = r; flash = record { words = now (image .exit) } } ≡ stepFlat s (record { words = now (image .entry) }) ⌝ }
+    ensures { λ r. ⌜ record { result = r; flash = flash (now (image .exit)) } ≡ stepFlat s (flash (now (image .entry))) ⌝ }
 {
     let r = steps::step(encoding::decode(s), image);
     results::stepped_of(s, r)
@@ -149,7 +150,7 @@ pub extern "C" fn lurgabel_value_run(
     operation: FlatOperation,
     buffer: &mut [u32],
 ) -> FlatCompleted
-    ensures { λ r. ⌜ record { result = r; flash = record { words = now (image .exit) }; buffer = now (buffer .exit) } ≡ runFlat s (record { words = now (image .entry) }) operation (now (buffer .entry)) ⌝ }
+    ensures { λ r. ⌜ record { result = r; flash = flash (now (image .exit)); buffer = now (buffer .exit) } ≡ runFlat s (flash (now (image .entry))) operation (now (buffer .entry)) ⌝ }
 {
     let o = flat::operation_of(operation);
     let r = whole::run(encoding::decode(s), image, o, buffer);
@@ -164,7 +165,7 @@ pub extern "C" fn lurgabel_value_host_read(
     image: &[u32],
     address: u32,
 ) -> FlatFetched
-    ensures { λ r. ⌜ r ≡ hostReadFlat s (record { words = now (image .entry) }) address ⌝ }
+    ensures { λ r. ⌜ r ≡ hostReadFlat s (flash (now (image .entry))) address ⌝ }
 {
     results::fetched_of(
         s,
@@ -175,7 +176,7 @@ pub extern "C" fn lurgabel_value_host_read(
 // Where a view starts, since no reference goes back to C.
 #[no_mangle]
 pub extern "C" fn lurgabel_value_view(s: FlatController, image: &[u32], page: u32) -> FlatViewed
-    ensures { λ r. ⌜ r ≡ viewFlat s (record { words = now (image .entry) }) page ⌝ }
+    ensures { λ r. ⌜ r ≡ viewFlat s (flash (now (image .entry))) page ⌝ }
 {
     let place = view::view_place(encoding::decode(s), image, Page(page));
     let answer = place.answer;

@@ -6,8 +6,8 @@ ghost use Rattle.model.specs.Checks.{unaligned, badCount, malformed, pastData, 
 ghost use Rattle.model.specs.Refusals.{check};
 use model::Answer;
 use model::ByteAddress;
-use model::Controller;
 use model::Operation;
+use model::Setup;
 
 pub fn unaligned(a: ByteAddress) -> bool
     ensures { λ r. ⌜ r ≡ unaligned a ⌝ }
@@ -94,15 +94,15 @@ pub fn crosses_window(o: Operation) -> bool
 }
 
 // Checks 5, 7, 8 and 9. Only an operation that passes check 5 has a span to look at.
-pub fn operation_answer(c: Controller, o: Operation) -> Answer
-    ensures { λ r. ⌜ r ≡ operationAnswer c o ⌝ }
+pub fn operation_answer(s: Setup, o: Operation) -> Answer
+    ensures { λ r. ⌜ r ≡ operationAnswer s o ⌝ }
 {
     let form = form_answer(o);
     if !refusals::accepts(form) {
         return form;
     }
-    let range = refusals::check(out_of_range(c.pages, o), Answer::OutOfRange);
+    let range = refusals::check(out_of_range(s.pages, o), Answer::OutOfRange);
     let window = refusals::check(crosses_window(o), Answer::CrossesWindow);
-    let rights = refusals::check(permission::denied(c, o), Answer::Denied);
+    let rights = refusals::check(permission::denied(s, o), Answer::Denied);
     refusals::or_else(range, refusals::or_else(window, rights))
 }

@@ -10,6 +10,7 @@ use model::Controller;
 use model::Inputs;
 use model::Queues;
 use model::Settings;
+use model::Setup;
 
 fn settings_part(s: FlatController) -> Settings
     ensures { λ r. ⌜ r ≡ settingsPart s ⌝ }
@@ -66,11 +67,14 @@ pub fn decode(s: FlatController) -> Controller
         provision: flat::is_on(s.provision),
         locked: flat::is_on(s.locked),
     };
-    Controller {
+    let setup = Setup {
         pages: pages_part(s),
-        phase: flat::phase_of(s.phase),
         inputs,
         settings,
+    };
+    Controller {
+        setup,
+        phase: flat::phase_of(s.phase),
         errors,
         queues: Queues { reads, programs },
         progress: progress::progress_of(progress),
@@ -83,8 +87,9 @@ pub fn put(s: FlatController, c: Controller) -> FlatController
 {
     let before = s.progress;
     let phase = c.phase;
-    let inputs = c.inputs;
-    let settings = c.settings;
+    let setup = c.setup;
+    let inputs = setup.inputs;
+    let settings = setup.settings;
     let regions = settings.regions;
     let info = settings.info;
     let erase = settings.erase;
@@ -98,7 +103,7 @@ pub fn put(s: FlatController, c: Controller) -> FlatController
     let pages = arrays::flat_settings(info);
     let banks = arrays::flags_of(erase);
     FlatController {
-        pages: c.pages,
+        pages: setup.pages,
         phase: flat::phase_number(phase),
         provision: flat::flag_of(inputs.provision),
         locked: flat::flag_of(inputs.locked),

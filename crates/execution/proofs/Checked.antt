@@ -13,6 +13,7 @@ use Rattle.model.specs.Refusals.{accepts, isDenied}
 use Rattle.model.specs.Checks.{operationAnswer}
 use Rattle.model.specs.Whole.{wholeAnswer, shortBuffer}
 use Rattle.model.specs.declared.Operation.{Operation}
+use Rattle.model.specs.declared.Setup.{Setup}
 use Rattle.model.specs.declared.Controller.{Controller}
 use Rattle.model.specs.declared.Answer.the-variants.{Denied}
 use Rattle.model.proofs.Answers.{accepted-passes}
@@ -26,27 +27,27 @@ use Rattle.transfers.specs.Placed.{Placed}
 -- With checks 1 to 4 passed:
 module _ (c : Controller) (f : Flash) (o : Operation) (free : accepts (wholeAnswer c f) ≡ true) where
   -- an accepted operation has its places;
-  pub placed : accepts (operationAnswer c o) ≡ true → Placed (c .pages) o f
+  pub placed : accepts (operationAnswer (c .setup) o) ≡ true → Placed (c .setup .pages) o f
   placed ok = record {
     pages = pages-bound c (whole-free c f free .fits);
-    ranged = accepted-passes c o ok .0;
+    ranged = accepted-passes (c .setup) o ok .0;
     long = whole-length c f free;
   }
 
   module _ (b : List ℕ) (room : shortBuffer o b ≡ false) where
     -- with 6 passed, the buffer of a read and of a program has room for its words,
-    pub read-room : accepts (operationAnswer c o) ≡ true → isRead o ≡ true → totalWords (c .pages) o ≤ length b
+    pub read-room : accepts (operationAnswer (c .setup) o) ≡ true → isRead o ≡ true → totalWords (c .setup .pages) o ≤ length b
     read-room ok r = long c f o b free room (rw ok) (omega (arith, eqb-true (o .kind) 0 r))
 
-    pub program-room : accepts (operationAnswer c o) ≡ true → isProgram o ≡ true → totalWords (c .pages) o ≤ length b
+    pub program-room : accepts (operationAnswer (c .setup) o) ≡ true → isProgram o ≡ true → totalWords (c .setup .pages) o ≤ length b
     program-room ok p = long c f o b free room (rw ok) (omega (arith, eqb-true (o .kind) 1 p))
 
     -- and so has that of a denied read.
-    pub blank-room : isDenied (operationAnswer c o) ≡ true → isRead o ≡ true → o .count ≤ length b
+    pub blank-room : isDenied (operationAnswer (c .setup) o) ≡ true → isRead o ≡ true → o .count ≤ length b
     blank-room d r =
         let kind : o .kind < 2 = omega (arith, eqb-true (o .kind) 0 r) in
-        rw (moving-words (c .pages) o kind) at (long c f o b free room (rw (d, r, or-true)) kind)
+        rw (moving-words (c .setup .pages) o kind) at (long c f o b free room (rw (d, r, or-true)) kind)
 
 -- An answer of 9 is `Denied`.
-pub told-denied : (c : Controller) (o : Operation) → isDenied (operationAnswer c o) ≡ true → operationAnswer c o ≡ Denied
-told-denied c o d = answer-named c o (rw (d, or-true)) ∙ rw d
+pub told-denied : (s : Setup) (o : Operation) → isDenied (operationAnswer s o) ≡ true → operationAnswer s o ≡ Denied
+told-denied s o d = answer-named s o (rw (d, or-true)) ∙ rw d

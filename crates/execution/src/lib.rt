@@ -1,6 +1,7 @@
 // What a whole operation does once its checks have answered: the transfer of its words, and the controller afterwards.
 ghost use mathlib.Core.Path.{_≡_};
 ghost use mathlib.Core.Bool.{true, false};
+ghost use Rattle.model.specs.State.{flash};
 ghost use Rattle.model.specs.Refusals.{accepts};
 ghost use Rattle.model.specs.Checks.{operationAnswer};
 ghost use Rattle.model.specs.Whole.{wholeAnswer, shortBuffer};
@@ -22,18 +23,19 @@ pub fn completed(c: Controller, answer: Answer, bits: u32) -> Completed
 
 // An operation that passes every check.
 fn started(c: Controller, image: &mut [u32], o: Operation, buffer: &mut [u32]) -> Completed
-    requires { ⌜ (accepts (wholeAnswer c (record { words = now image })) ≡ true) × (shortBuffer o (now buffer) ≡ false) × (accepts (operationAnswer c o) ≡ true) ⌝ }
-    ensures { λ r. ⌜ record { result = r; flash = record { words = now (image .exit) }; buffer = now (buffer .exit) } ≡ performed c (record { words = now (image .entry) }) o (now (buffer .entry)) (planStarted (c .pages) o) ⌝ }
+    requires { ⌜ (accepts (wholeAnswer c (flash (now image))) ≡ true) × (shortBuffer o (now buffer) ≡ false) × (accepts (operationAnswer (c .setup) o) ≡ true) ⌝ }
+    ensures { λ r. ⌜ record { result = r; flash = flash (now (image .exit)); buffer = now (buffer .exit) } ≡ performed c (flash (now (image .entry))) o (now (buffer .entry)) (planStarted (c .setup .pages) o) ⌝ }
 {
+    let setup = c.setup;
     if places::is_read(o) {
-        transfers::read(c.pages, image, o, buffer);
+        transfers::read(setup.pages, image, o, buffer);
         return completed(transfers::reads_drained(c), Answer::Accepted, 0);
     }
     if places::is_program(o) {
-        let bits = transfers::program(c, image, o, buffer);
+        let bits = transfers::program(setup, image, o, buffer);
         return completed(transfers::programs_drained(c), Answer::Accepted, bits);
     }
-    let bits = transfers::erase(c, image, o);
+    let bits = transfers::erase(setup, image, o);
     completed(c, Answer::Accepted, bits)
 }
 
@@ -45,8 +47,8 @@ pub fn answered(
     buffer: &mut [u32],
     answer: Answer,
 ) -> Completed
-    requires { ⌜ (accepts (wholeAnswer c (record { words = now image })) ≡ true) × (shortBuffer o (now buffer) ≡ false) × (answer ≡ operationAnswer c o) ⌝ }
-    ensures { λ r. ⌜ record { result = r; flash = record { words = now (image .exit) }; buffer = now (buffer .exit) } ≡ performed c (record { words = now (image .entry) }) o (now (buffer .entry)) (planAnswered (c .pages) o answer) ⌝ }
+    requires { ⌜ (accepts (wholeAnswer c (flash (now image))) ≡ true) × (shortBuffer o (now buffer) ≡ false) × (answer ≡ operationAnswer (c .setup) o) ⌝ }
+    ensures { λ r. ⌜ record { result = r; flash = flash (now (image .exit)); buffer = now (buffer .exit) } ≡ performed c (flash (now (image .entry))) o (now (buffer .entry)) (planAnswered (c .setup .pages) o answer) ⌝ }
 {
     if refusals::accepts(answer) {
         return started(c, image, o, buffer);

@@ -174,10 +174,10 @@ pub put-encoded : (s : FlatController) (c : Controller) → valid c ≡ true →
 unfolding put encoded
 put-encoded s c h =
     let v = valid-parts c h in
-    rw (number-is-phase (c .phase), flag-is-flag (c .inputs .provision), flag-is-flag (c .inputs .locked), all-mapped flatRegion regionEncoded (λ g. flag-is-flag (g .on)) (c .settings .regions), all-mapped flatSetting settingEncoded (λ p. flag-is-flag (p .on)) (c .settings .info), all-mapped flagOf isFlag flag-is-flag (c .settings .erase), progress-put c (s .progress) (c .progress) (v .running), mask-is-mask (c .errors))
+    rw (number-is-phase (c .phase), flag-is-flag (c .setup .inputs .provision), flag-is-flag (c .setup .inputs .locked), all-mapped flatRegion regionEncoded (λ g. flag-is-flag (g .on)) (c .setup .settings .regions), all-mapped flatSetting settingEncoded (λ p. flag-is-flag (p .on)) (c .setup .settings .info), all-mapped flagOf isFlag flag-is-flag (c .setup .settings .erase), progress-put c (s .progress) (c .progress) (v .running), mask-is-mask (c .errors))
 
 pub decode-put : (s : FlatController) (c : Controller) → valid c ≡ true → decode (put s c) ≡ c
 unfolding put decode
 decode-put s c h =
     let v = valid-parts c h in
-    rw (put-encoded s c h, phase-of-number (c .phase), on-flag (c .inputs .provision), on-flag (c .inputs .locked), list-forth regionOf flatRegion region-forth (c .settings .regions), list-forth settingOf flatSetting setting-forth (c .settings .info), list-forth isOn flagOf on-flag (c .settings .erase), recorded-of-mask (c .errors), progress-forth c (s .progress) (c .progress) (v .running))
+    rw (put-encoded s c h, phase-of-number (c .phase), on-flag (c .setup .inputs .provision), on-flag (c .setup .inputs .locked), list-forth regionOf flatRegion region-forth (c .setup .settings .regions), list-forth settingOf flatSetting setting-forth (c .setup .settings .info), list-forth isOn flagOf on-flag (c .setup .settings .erase), recorded-of-mask (c .errors), progress-forth c (s .progress) (c .progress) (v .running))

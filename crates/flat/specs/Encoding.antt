@@ -182,10 +182,12 @@ encoded s =
 -- of 0, so every call answers 1, but reset, which takes any state.
 unfoldable pub decode : FlatController → Controller
 decode s = record {
-  pages = cond (encoded s) (s .pages) 0;
+  setup = record {
+    pages = cond (encoded s) (s .pages) 0;
+    inputs = record { provision = isOn (s .provision); locked = isOn (s .locked) };
+    settings = settingsPart s;
+  };
   phase = phaseOf (s .phase);
-  inputs = record { provision = isOn (s .provision); locked = isOn (s .locked) };
-  settings = settingsPart s;
   errors = recordedOf (s .recorded) (s .address);
   queues = record { reads = queueOf (s .reads); programs = queueOf (s .programs) };
   progress = progressOf (s .progress);
@@ -194,14 +196,14 @@ decode s = record {
 -- The struct with a controller put into it.
 unfoldable pub put : FlatController → Controller → FlatController
 put s c = record {
-  pages = c .pages;
+  pages = c .setup .pages;
   phase = phaseNumber (c .phase);
-  provision = flagOf (c .inputs .provision);
-  locked = flagOf (c .inputs .locked);
-  «default_rights» = c .settings .«default_rights»;
-  regions = map flatRegion (c .settings .regions);
-  info = map flatSetting (c .settings .info);
-  erase = map flagOf (c .settings .erase);
+  provision = flagOf (c .setup .inputs .provision);
+  locked = flagOf (c .setup .inputs .locked);
+  «default_rights» = c .setup .settings .«default_rights»;
+  regions = map flatRegion (c .setup .settings .regions);
+  info = map flatSetting (c .setup .settings .info);
+  erase = map flagOf (c .setup .settings .erase);
   progress = putProgress (s .progress) (c .progress);
   reads = flatQueue (c .queues .reads);
   programs = flatQueue (c .queues .programs);

@@ -19,11 +19,11 @@ use Rattle.model.proofs.Answers.{both-accept, check-passed}
 use Rattle.model.proofs.Accepting.{lent-fits}
 
 pub read-inside : (c : Controller) (f : Flash) (a : ByteAddress) → accepts (hostAnswer c f a) ≡ true
-    → (c .pages ≤ 256) × (wordAt (c .pages) false 0 a .0 < length (f .words))
+    → (c .setup .pages ≤ 256) × (wordAt (c .setup .pages) false 0 a .0 < length (f .words))
 unfolding hostAnswer
 read-inside c f a h =
     let (ready, rest) = both-accept (readyAnswer (validWith c f) (c .phase)) _ h in
     let fits = lent-fits c f (phaseAnswer (c .phase)) ready in
-    let range = both-accept (check (pastData (c .pages) a) OutOfRange) _ (both-accept (check (unaligned a) Malformed) _ rest .1) .0 in
-    let below : a .0 < 2 * c .pages * 1024 = leb-false _ _ (check-passed _ OutOfRange refl range) in
-    (fits .0, omega (arith, word-at-inside (c .pages) false 0 a (data-inside (c .pages) 0 (pageOf a) (omega arith))))
+    let range = both-accept (check (pastData (c .setup .pages) a) OutOfRange) _ (both-accept (check (unaligned a) Malformed) _ rest .1) .0 in
+    let below : a .0 < 2 * c .setup .pages * 1024 = leb-false _ _ (check-passed _ OutOfRange refl range) in
+    (fits .0, omega (arith, word-at-inside (c .setup .pages) false 0 a (data-inside (c .setup .pages) 0 (pageOf a) (omega arith))))

@@ -2,6 +2,7 @@
 ghost use mathlib.Core.Path.{_≡_};
 ghost use Prim.Native.Nat.{_+_, _≤_};
 ghost use lib.ListN.{length, take, drop};
+ghost use Rattle.model.specs.State.{flash};
 ghost use Rattle.model.specs.Geometry.{imageWords};
 ghost use Rattle.model.specs.Lifecycle.{isDisabled, seedWords, noSeeds, seedsOf, initialiseAnswer, initialise};
 use model::Answer;
@@ -23,7 +24,7 @@ pub fn is_disabled(p: Phase) -> bool
 
 // Checks 1, 2 and 12 (when ready).
 fn initialise_answer(c: Controller, image: &[u32]) -> Answer
-    ensures { λ r. ⌜ r ≡ initialiseAnswer c (record { words = now (image .entry) }) ⌝ }
+    ensures { λ r. ⌜ r ≡ initialiseAnswer c (flash (now (image .entry))) ⌝ }
 {
     let phase = c.phase;
     let invalid = refusals::check(!validity::valid_with(c, image), Answer::Invalid);
@@ -58,7 +59,7 @@ fn no_seeds() -> Seeds
 // The creator seed page is 1, the owner seed page 2.
 fn seeds_of(d: u32, image: &[u32]) -> Seeds
     requires { ⌜ (d ≤ 256) × (length (now image) ≡ imageWords d) ⌝ }
-    ensures { λ r. ⌜ r ≡ seedsOf d (record { words = now (image .entry) }) ⌝ }
+    ensures { λ r. ⌜ r ≡ seedsOf d (flash (now (image .entry))) ⌝ }
 {
     let creator = seed(image, geometry::first_word(geometry::special_page(d, 1)));
     let owner = seed(image, geometry::first_word(geometry::special_page(d, 2)));
@@ -71,16 +72,17 @@ fn seeds_of(d: u32, image: &[u32]) -> Seeds
 
 // An uninitialised controller becomes ready. The seeds are read only where they are handed out.
 pub fn initialise(c: Controller, image: &[u32]) -> Initialised
-    ensures { λ r. ⌜ r ≡ initialise c (record { words = now (image .entry) }) ⌝ }
+    ensures { λ r. ⌜ r ≡ initialise c (flash (now (image .entry))) ⌝ }
 {
+    let setup = c.setup;
     let answer = initialise_answer(c, image);
     let ready = state::with_phase(c, Phase::Ready);
     let next = refusals::settle(c, ready, answer);
     let controller = next.controller;
-    let inputs = c.inputs;
+    let inputs = setup.inputs;
     let accepted = refusals::accepts(answer);
     if accepted & inputs.provision {
-        let seeds = seeds_of(c.pages, image);
+        let seeds = seeds_of(setup.pages, image);
         return Initialised {
             controller,
             answer,

@@ -24,6 +24,7 @@ use Rattle.model.specs.declared.Operation.{Operation}
 use Rattle.model.specs.declared.Work.{Work}
 use Rattle.model.specs.declared.Work.the-variants.{Read, Program, Erase}
 use Rattle.model.specs.declared.Progress.the-variants.{Idle, Running}
+use Rattle.model.specs.declared.Setup.{Setup}
 use Rattle.model.specs.declared.Controller.{Controller}
 use Rattle.model.specs.declared.Stepped.{Stepped}
 use Rattle.model.specs.declared.Movement.the-variants.{None, Stalled}
@@ -47,11 +48,11 @@ either false true z h = h
 either false false z h = absurd (false≢true h)
 
 -- What starts was accepted or denied, so its answer says how many words are readable.
-pub starts-readable : (c : Controller) (o : Operation) {a : Answer} → a ≡ operationAnswer c o → starts o a ≡ true
-    → cond (isDenied a) 0 (o .count) ≡ readableWords c o
-starts-readable c o {a} e s =
-    let told : starts o (operationAnswer c o) ≡ true = sym (ap (starts o) e) ∙ s in
-    rw e (sym (readable-by-answer c o (either (accepts (operationAnswer c o)) (isRead o) (isDenied (operationAnswer c o)) told)))
+pub starts-readable : (s : Setup) (o : Operation) {a : Answer} → a ≡ operationAnswer s o → starts o a ≡ true
+    → cond (isDenied a) 0 (o .count) ≡ readableWords s o
+starts-readable s o {a} e b =
+    let told : starts o (operationAnswer s o) ≡ true = sym (ap (starts o) e) ∙ b in
+    rw e (sym (readable-by-answer s o (either (accepts (operationAnswer s o)) (isRead o) (isDenied (operationAnswer s o)) told)))
 
 -- Checks 1, 2 and 3 accept a valid state only.
 pub ready-valid : (v : Bool) (p : Phase) → accepts (readyAnswer v p) ≡ true → v ≡ true
@@ -130,8 +131,8 @@ pop-passed c h =
 -- No operation has 131,072 words.
 pub moved-small : (c : Controller) (w : Work) → Moving c w → movedOf w < 131072
 moved-small c w m =
-    ⊎-elim (λ b. omega (arith, bank-words-le (c .pages) (operationOf w) (m .pages .1) b, m .left))
-    (λ b. omega (arith, span-address-fits (c .pages) (operationOf w) (movedOf w) (m .pages .0) (m .pages .1) (m .ranged) b (m .left)))
+    ⊎-elim (λ b. omega (arith, bank-words-le (c .setup .pages) (operationOf w) (m .pages .1) b, m .left))
+    (λ b. omega (arith, span-address-fits (c .setup .pages) (operationOf w) (movedOf w) (m .pages .0) (m .pages .1) (m .ranged) b (m .left)))
     (which (isBankErase (operationOf w)))
 
 module _ (c : Controller) (f : Flash) where
@@ -159,7 +160,7 @@ read-leaves c f o k readable e h = rw (h, e)
 
 -- Where check 1 accepts, D is at most 256 and the image has its length.
 pub lent-fits : (c : Controller) (f : Flash) (rest : Answer) → accepts (orElse (check (not (validWith c f)) Invalid) rest) ≡ true
-    → (c .pages ≤ 256) × (length (f .words) ≡ imageWords (c .pages))
+    → (c .setup .pages ≤ 256) × (length (f .words) ≡ imageWords (c .setup .pages))
 lent-fits c f rest h =
     let fits : validWith c f ≡ true =
     not-false _ (check-passed _ Invalid refl (both-accept (check (not (validWith c f)) Invalid) rest h .0)) in

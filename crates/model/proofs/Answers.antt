@@ -14,7 +14,7 @@ use Rattle.model.specs.declared.Answer.the-variants.{Accepted, Invalid, 
 use Rattle.model.specs.declared.Phase.{Phase}
 use Rattle.model.specs.declared.Phase.the-variants as phase
 use Rattle.model.specs.declared.Operation.{Operation}
-use Rattle.model.specs.declared.Controller.{Controller}
+use Rattle.model.specs.declared.Setup.{Setup}
 use Rattle.model.proofs.Bool.{by-test}
 
 -- A refusal does not accept.
@@ -106,30 +106,30 @@ first-named false false false true h = refl
 first-named false false false false h = refl
 
 -- So of an operation:
-module _ (c : Controller) (o : Operation) where
+module _ (s : Setup) (o : Operation) where
   -- its checks come in this order;
-  in-order : operationAnswer c o ≡ firstOf (malformed o) (outOfRange (c .pages) o) (crossesWindow o) (denied c o)
+  in-order : operationAnswer s o ≡ firstOf (malformed o) (outOfRange (s .pages) o) (crossesWindow o) (denied s o)
   unfolding operationAnswer
   in-order = refl
 
   -- refused, it is recorded;
-  pub recorded-if-refused : accepts (operationAnswer c o) ≡ false → isRecorded (numberOf (operationAnswer c o)) ≡ true
-  recorded-if-refused = rw in-order (first-recorded (malformed o) (outOfRange (c .pages) o) (crossesWindow o) (denied c o))
+  pub recorded-if-refused : accepts (operationAnswer s o) ≡ false → isRecorded (numberOf (operationAnswer s o)) ≡ true
+  recorded-if-refused = rw in-order (first-recorded (malformed o) (outOfRange (s .pages) o) (crossesWindow o) (denied s o))
 
   -- told 9, it is denied;
-  pub denied-if-told : isDenied (operationAnswer c o) ≡ true → denied c o ≡ true
-  denied-if-told = rw in-order (first-denied (malformed o) (outOfRange (c .pages) o) (crossesWindow o) (denied c o))
+  pub denied-if-told : isDenied (operationAnswer s o) ≡ true → denied s o ≡ true
+  denied-if-told = rw in-order (first-denied (malformed o) (outOfRange (s .pages) o) (crossesWindow o) (denied s o))
 
   -- accepted, it is in range and not denied;
-  pub accepted-passes : accepts (operationAnswer c o) ≡ true → (outOfRange (c .pages) o ≡ false) × (denied c o ≡ false)
-  accepted-passes = rw in-order (first-passed (malformed o) (outOfRange (c .pages) o) (crossesWindow o) (denied c o))
+  pub accepted-passes : accepts (operationAnswer s o) ≡ true → (outOfRange (s .pages) o ≡ false) × (denied s o ≡ false)
+  accepted-passes = rw in-order (first-passed (malformed o) (outOfRange (s .pages) o) (crossesWindow o) (denied s o))
 
   -- accepted or told 9, it is well formed and in range, and denied if told so,
-  pub asked-in-range : (accepts (operationAnswer c o) || isDenied (operationAnswer c o)) ≡ true
-      → (malformed o ≡ false) × (outOfRange (c .pages) o ≡ false) × (denied c o ≡ isDenied (operationAnswer c o))
-  asked-in-range = rw in-order (first-two (malformed o) (outOfRange (c .pages) o) (crossesWindow o) (denied c o))
+  pub asked-in-range : (accepts (operationAnswer s o) || isDenied (operationAnswer s o)) ≡ true
+      → (malformed o ≡ false) × (outOfRange (s .pages) o ≡ false) × (denied s o ≡ isDenied (operationAnswer s o))
+  asked-in-range = rw in-order (first-two (malformed o) (outOfRange (s .pages) o) (crossesWindow o) (denied s o))
 
   -- and told just that.
-  pub answer-named : (accepts (operationAnswer c o) || isDenied (operationAnswer c o)) ≡ true
-      → operationAnswer c o ≡ cond (isDenied (operationAnswer c o)) Denied Accepted
-  answer-named = rw in-order (first-named (malformed o) (outOfRange (c .pages) o) (crossesWindow o) (denied c o))
+  pub answer-named : (accepts (operationAnswer s o) || isDenied (operationAnswer s o)) ≡ true
+      → operationAnswer s o ≡ cond (isDenied (operationAnswer s o)) Denied Accepted
+  answer-named = rw in-order (first-named (malformed o) (outOfRange (s .pages) o) (crossesWindow o) (denied s o))

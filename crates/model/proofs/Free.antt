@@ -53,13 +53,13 @@ whole-free c f h =
     }
 
 -- And the image has its length.
-pub whole-length : (c : Controller) (f : Flash) → accepts (wholeAnswer c f) ≡ true → length (f .words) ≡ imageWords (c .pages)
+pub whole-length : (c : Controller) (f : Flash) → accepts (wholeAnswer c f) ≡ true → length (f .words) ≡ imageWords (c .setup .pages)
 unfolding wholeAnswer
 whole-length c f h =
     with-length c f (ready-valid (validWith c f) (c .phase) (both-accept (readyAnswer (validWith c f) (c .phase)) _ h .0))
 
 -- A start of a free state comes to checks 5, 7, 8 and 9.
-pub free-start : (c : Controller) (o : Operation) → Free c → start c o ≡ started c o (operationAnswer c o)
+pub free-start : (c : Controller) (o : Operation) → Free c → start c o ≡ started c o (operationAnswer (c .setup) o)
 unfolding startAnswer
 free-start c o v = start-goes-on c o (simp (v .fits, ready-accepts (c .phase) (v .ready), v .idle))
 

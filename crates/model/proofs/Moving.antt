@@ -13,6 +13,7 @@ use Rattle.model.specs.Valid.{runningFits, valid, validWith}
 use Rattle.model.specs.declared.Work.{Work}
 use Rattle.model.specs.declared.Work.the-variants.{Read, Program, Erase}
 use Rattle.model.specs.declared.Progress.the-variants.{Running}
+use Rattle.model.specs.declared.Setup.{Setup}
 use Rattle.model.specs.declared.Controller.{Controller}
 use Rattle.model.proofs.Bool.{and-left, and-right}
 use Rattle.model.proofs.Places.{place-inside}
@@ -30,18 +31,18 @@ pub running-fits : (c : Controller) → valid c ≡ true → runningFits c (c .p
 running-fits c h = valid-parts c h .running
 
 -- Work that was asked for was accepted, or is a denied read.
-asked : (c : Controller) (w : Work) → askedFits c w ≡ true
-    → (accepts (operationAnswer c (operationOf w)) || isDenied (operationAnswer c (operationOf w))) ≡ true
-asked c (Read o k r) h = h
-asked c (Program o k) h = rw h
-asked c (Erase o k) h = rw h
+asked : (s : Setup) (w : Work) → askedFits s w ≡ true
+    → (accepts (operationAnswer s (operationOf w)) || isDenied (operationAnswer s (operationOf w))) ≡ true
+asked s (Read o k r) h = h
+asked s (Program o k) h = rw h
+asked s (Erase o k) h = rw h
 
 -- The next word of the operation in progress has a place in the image.
 pub record Moving (c : Controller) (w : Work) : Type 0 where
-  pub pages : (10 ≤ c .pages) × (c .pages ≤ 256)
-  pub ranged : outOfRange (c .pages) (operationOf w) ≡ false
-  pub left : movedOf w < totalWords (c .pages) (operationOf w)
-  pub inside : placeOf (c .pages) (operationOf w) (movedOf w) .0 < imageWords (c .pages)
+  pub pages : (10 ≤ c .setup .pages) × (c .setup .pages ≤ 256)
+  pub ranged : outOfRange (c .setup .pages) (operationOf w) ≡ false
+  pub left : movedOf w < totalWords (c .setup .pages) (operationOf w)
+  pub inside : placeOf (c .setup .pages) (operationOf w) (movedOf w) .0 < imageWords (c .setup .pages)
 
 -- Of a valid state with work in progress:
 module _ (c : Controller) (w : Work) (h : valid c ≡ true) (e : c .progress ≡ Running w) where
@@ -58,12 +59,12 @@ module _ (c : Controller) (w : Work) (h : valid c ≡ true) (e : c .progress ≡
   pub moving : Moving c w
   moving =
       let d = pages-bound c h in
-      let r = asked-in-range c (operationOf w) (asked c w (busy-parts .asked)) .1 in
+      let r = asked-in-range (c .setup) (operationOf w) (asked (c .setup) w (busy-parts .asked)) .1 in
       record {
         pages = d;
         ranged = r;
         left = busy-parts .left;
-        inside = place-inside (c .pages) (operationOf w) (d .0) r (movedOf w) (busy-parts .left);
+        inside = place-inside (c .setup .pages) (operationOf w) (d .0) r (movedOf w) (busy-parts .left);
       }
 
 -- Check 1 of a call that is lent the flash: the state is valid, and the image has its length.
@@ -71,6 +72,6 @@ pub with-valid : (c : Controller) (f : Flash) → validWith c f ≡ true → val
 unfolding validWith
 with-valid c f h = and-left (valid c) _ h
 
-pub with-length : (c : Controller) (f : Flash) → validWith c f ≡ true → length (f .words) ≡ imageWords (c .pages)
+pub with-length : (c : Controller) (f : Flash) → validWith c f ≡ true → length (f .words) ≡ imageWords (c .setup .pages)
 unfolding validWith
-with-length c f h = eqb-true (length (f .words)) (imageWords (c .pages)) (and-right (valid c) _ h)
+with-length c f h = eqb-true (length (f .words)) (imageWords (c .setup .pages)) (and-right (valid c) _ h)

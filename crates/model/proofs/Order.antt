@@ -23,6 +23,7 @@ use Rattle.model.specs.Order.{refusedOutcome, refusedWhole, refusedIniti
 use Rattle.model.specs.declared.Page.{Page}
 use Rattle.model.specs.declared.ByteAddress.{ByteAddress}
 use Rattle.model.specs.declared.Operation.{Operation}
+use Rattle.model.specs.declared.Setup.{Setup}
 use Rattle.model.specs.declared.Controller.{Controller}
 use Rattle.model.specs.declared.Phase.{Phase}
 use Rattle.model.specs.declared.Phase.the-variants as phase
@@ -64,7 +65,7 @@ pub not-valid : (c : Controller) (f : Flash) → valid c ≡ false → validWith
 unfolding validWith
 not-valid c f h = rw h
 
-pub wrong-image : (c : Controller) (f : Flash) → imageFits (c .pages) f ≡ false → validWith c f ≡ false
+pub wrong-image : (c : Controller) (f : Flash) → imageFits (c .setup .pages) f ≡ false → validWith c f ≡ false
 unfolding validWith
 wrong-image c f h = rw h (and-false (valid c))
 
@@ -127,30 +128,31 @@ settings-busy c w h r = record {
 
 -- ---- 5, 7, 8 and 9, in this order; of a whole operation 6 between 5 and 7
 
-module _ (c : Controller) (o : Operation) where
-  pub malformed-first : malformed o ≡ true → operationAnswer c o ≡ Malformed
+module _ (s : Setup) (o : Operation) where
+  pub malformed-first : malformed o ≡ true → operationAnswer s o ≡ Malformed
   unfolding operationAnswer
   malformed-first h = rw h
 
-  pub range-second : malformed o ≡ false → outOfRange (c .pages) o ≡ true → operationAnswer c o ≡ OutOfRange
+  pub range-second : malformed o ≡ false → outOfRange (s .pages) o ≡ true → operationAnswer s o ≡ OutOfRange
   unfolding operationAnswer
   range-second h r = rw (h, r)
 
-  pub window-third : malformed o ≡ false → outOfRange (c .pages) o ≡ false → crossesWindow o ≡ true
-      → operationAnswer c o ≡ CrossesWindow
+  pub window-third : malformed o ≡ false → outOfRange (s .pages) o ≡ false → crossesWindow o ≡ true
+      → operationAnswer s o ≡ CrossesWindow
   unfolding operationAnswer
   window-third h r w = rw (h, r, w)
 
-  pub denied-last : malformed o ≡ false → outOfRange (c .pages) o ≡ false → crossesWindow o ≡ false → denied c o ≡ true
-      → operationAnswer c o ≡ Denied
+  pub denied-last : malformed o ≡ false → outOfRange (s .pages) o ≡ false → crossesWindow o ≡ false → denied s o ≡ true
+      → operationAnswer s o ≡ Denied
   unfolding operationAnswer
   denied-last h r w d = rw (h, r, w, d)
 
-  pub passes : malformed o ≡ false → outOfRange (c .pages) o ≡ false → crossesWindow o ≡ false → denied c o ≡ false
-      → operationAnswer c o ≡ Accepted
+  pub passes : malformed o ≡ false → outOfRange (s .pages) o ≡ false → crossesWindow o ≡ false → denied s o ≡ false
+      → operationAnswer s o ≡ Accepted
   unfolding operationAnswer
   passes h r w d = rw (h, r, w, d)
 
+module _ (c : Controller) (o : Operation) where
   -- A malformed operation is refused with 5, however short the buffer; a short buffer with 6, wherever the span lies.
   pub malformed-before-short : (f : Flash) (b : List ℕ) → accepts (wholeAnswer c f) ≡ true → accepts (startAnswer c) ≡ true
       → malformed o ≡ true → whole c f o b .result .answer ≡ Malformed
@@ -171,18 +173,18 @@ settings-any-phase c fits h e = rw (h, e)
 
 -- A host read and a view are allowed whatever is in progress.
 pub host-any-progress : (c : Controller) (f : Flash) (a : ByteAddress) → validWith c f ≡ true → c .phase ≡ phase.Ready
-    → unaligned a ≡ false → pastData (c .pages) a ≡ false → unreadable c (pageOf a) ≡ false → hostAnswer c f a ≡ Accepted
+    → unaligned a ≡ false → pastData (c .setup .pages) a ≡ false → unreadable (c .setup) (pageOf a) ≡ false → hostAnswer c f a ≡ Accepted
 unfolding hostAnswer
 host-any-progress c f a h p u d g = rw (h, u, d, g, p)
 
 pub view-any-progress : (c : Controller) (f : Flash) (p : Page) → validWith c f ≡ true → c .phase ≡ phase.Ready
-    → leb (dataPages (c .pages)) (p .0) ≡ false → unreadable c p ≡ false → viewAnswer c f p ≡ Accepted
+    → leb (dataPages (c .setup .pages)) (p .0) ≡ false → unreadable (c .setup) p ≡ false → viewAnswer c f p ≡ Accepted
 unfolding viewAnswer
 view-any-progress c f p h r d g = rw (h, d, g, r)
 
 -- ---- a valid state has D 10 to 256
 
-pub pages-bound : (c : Controller) → valid c ≡ true → (10 ≤ c .pages) × (c .pages ≤ 256)
+pub pages-bound : (c : Controller) → valid c ≡ true → (10 ≤ c .setup .pages) × (c .setup .pages ≤ 256)
 pages-bound c h =
     let fit = valid-parts c h .pages in
-    (leb-true _ _ (and-left (leb 10 (c .pages)) _ fit), leb-true _ _ (and-right (leb 10 (c .pages)) _ fit))
+    (leb-true _ _ (and-left (leb 10 (c .setup .pages)) _ fit), leb-true _ _ (and-right (leb 10 (c .setup .pages)) _ fit))

@@ -16,7 +16,7 @@ use Rattle.model.specs.Places.{spanStart, spanWords, spanAddress}
 use Rattle.model.specs.Rights.{decides, dataRights, leading, spanPages, pageGrants, allowedWords, denied}
 use Rattle.model.specs.declared.ByteAddress.{ByteAddress}
 use Rattle.model.specs.declared.Operation.{Operation}
-use Rattle.model.specs.declared.Controller.{Controller}
+use Rattle.model.specs.declared.Setup.{Setup}
 use Rattle.model.specs.declared.Page.{Page}
 use Rattle.model.specs.declared.Region.{Region}
 use Rattle.model.proofs.Bool.{by-test}
@@ -96,11 +96,11 @@ leading-passed test from (suc n) (suc i) h =
 -- ---- the words before the first page without the right
 
 -- The span check from its parts, each known by an equation.
-pub allowed-by : (c : Controller) (o : Operation) {s : ByteAddress} {p : Page} {w l k : ℕ} → s ≡ spanStart o → w ≡ spanWords o
-    → p ≡ pageOf s → l ≡ leading (pageGrants c o) (p .0) ((s .0 % 1024 + 4 * w + 1023) / 1024) → k ≡ wordInPage s
-    → min w (l * 256 - k) ≡ allowedWords c o
+pub allowed-by : (s : Setup) (o : Operation) {a : ByteAddress} {p : Page} {w l k : ℕ} → a ≡ spanStart o → w ≡ spanWords o
+    → p ≡ pageOf a → l ≡ leading (pageGrants s o) (p .0) ((a .0 % 1024 + 4 * w + 1023) / 1024) → k ≡ wordInPage a
+    → min w (l * 256 - k) ≡ allowedWords s o
 unfolding allowedWords
-allowed-by c o es ew ep el ek = rw (ek, el, ep, ew, es)
+allowed-by s o ea ew ep el ek = rw (ek, el, ep, ew, ea)
 
 -- The least of w and a - k, by the tests that find it.
 pub none-before : (w a k : ℕ) → a ≤ k → 0 ≡ min w (a - k)
@@ -117,20 +117,20 @@ all-before w a k h = sym (min-eq-left h)
 -- ---- what a check 9 that passes says
 
 -- Each page with a word of a span that is not denied grants the right.
-pub span-granted : (c : Controller) (o : Operation) (k : ℕ) → isBankErase o ≡ false → denied c o ≡ false → k < spanWords o
-    → pageGrants c o (pageOf (spanAddress o k) .0) ≡ true
+pub span-granted : (s : Setup) (o : Operation) (k : ℕ) → isBankErase o ≡ false → denied s o ≡ false → k < spanWords o
+    → pageGrants s o (pageOf (spanAddress o k) .0) ≡ true
 unfolding denied allowedWords
-span-granted c o k b h l =
-    let s : ℕ = spanStart o .0 in
-    let passed : ℕ = leading (pageGrants c o) (s / 1024) (spanPages o) in
-    let fits : spanWords o ≤ min (spanWords o) (passed * 256 - s % 1024 / 4) = ltb-false _ _ (rw b at h) in
-    let most : min (spanWords o) (passed * 256 - s % 1024 / 4) ≤ passed * 256 - s % 1024 / 4 = min-le-right _ _ in
-    let i : ℕ = (s % 1024 + 4 * k) / 1024 in
-    let e : (s + 4 * k) / 1024 ≡ s / 1024 + i = omega arith in
-    rw e (leading-passed (pageGrants c o) (s / 1024) (spanPages o) i (omega arith))
+span-granted s o k b h l =
+    let from : ℕ = spanStart o .0 in
+    let passed : ℕ = leading (pageGrants s o) (from / 1024) (spanPages o) in
+    let fits : spanWords o ≤ min (spanWords o) (passed * 256 - from % 1024 / 4) = ltb-false _ _ (rw b at h) in
+    let most : min (spanWords o) (passed * 256 - from % 1024 / 4) ≤ passed * 256 - from % 1024 / 4 = min-le-right _ _ in
+    let i : ℕ = (from % 1024 + 4 * k) / 1024 in
+    let e : (from + 4 * k) / 1024 ≡ from / 1024 + i = omega arith in
+    rw e (leading-passed (pageGrants s o) (from / 1024) (spanPages o) i (omega arith))
 
 -- A bank erase that is not denied has its bank's permission.
-pub bank-granted : (c : Controller) (o : Operation) → isBankErase o ≡ true → denied c o ≡ false
-    → getD (c .settings .erase) (bankOf (c .pages) (pageOf (o .address))) false ≡ true
+pub bank-granted : (s : Setup) (o : Operation) → isBankErase o ≡ true → denied s o ≡ false
+    → getD (s .settings .erase) (bankOf (s .pages) (pageOf (o .address))) false ≡ true
 unfolding denied
-bank-granted c o b h = not-false _ (rw b at h)
+bank-granted s o b h = not-false _ (rw b at h)

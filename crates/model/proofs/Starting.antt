@@ -18,6 +18,7 @@ use Rattle.model.specs.declared.ByteAddress.{ByteAddress}
 use Rattle.model.specs.declared.Errors.{Errors}
 use Rattle.model.specs.declared.Operation.{Operation}
 use Rattle.model.specs.declared.Work.the-variants.{Read, Program, Erase}
+use Rattle.model.specs.declared.Setup.{Setup}
 use Rattle.model.specs.declared.Controller.{Controller}
 use Rattle.model.specs.declared.Answer.{Answer}
 use Rattle.model.proofs.Bool.{by-test}
@@ -55,9 +56,9 @@ some-words d o fit h =
     (λ e. rw e (count-bound o h (omega (arith, well-formed o h .kind, eqb-false (o .kind) 2 e, eqb-false (o .kind) 3 b)) .0))))
 
 -- One that starts passes check 5.
-pub starts-well : (c : Controller) (o : Operation) → starts o (operationAnswer c o) ≡ true → malformed o ≡ false
-starts-well c o s =
-    by-test (malformed o) (λ e. absurd (true≢false (sym (rw (malformed-first c o e, and-false) at s)))) (λ e. e)
+pub starts-well : (s : Setup) (o : Operation) → starts o (operationAnswer s o) ≡ true → malformed o ≡ false
+starts-well s o b =
+    by-test (malformed o) (λ e. absurd (true≢false (sym (rw (malformed-first s o e, and-false) at b)))) (λ e. e)
 
 -- If it is neither a read nor a program, it is an erase.
 erase-kind : (o : Operation) → o .kind < 4 → isRead o ≡ false → isProgram o ≡ false → (isPageErase o || isBankErase o) ≡ true
@@ -67,19 +68,19 @@ erase-kind o h r p =
     by-test (isPageErase o) (λ e. rw e)
     (λ e. rw (e, eq-eqb (o .kind) 3 (omega (arith, not-read, not-program, eqb-false (o .kind) 2 e))))
 
-module _ (c : Controller) (o : Operation) (d : 10 ≤ c .pages) (empty : isEmpty (c .queues .programs) ≡ true)
-    (s : starts o (operationAnswer c o) ≡ true) where
+module _ (c : Controller) (o : Operation) (d : 10 ≤ c .setup .pages) (empty : isEmpty (c .queues .programs) ≡ true)
+    (s : starts o (operationAnswer (c .setup) o) ≡ true) where
   -- Its first word is one of its words,
-  pub first-word : 0 < totalWords (c .pages) o
-  first-word = some-words (c .pages) o d (starts-well c o s)
+  pub first-word : 0 < totalWords (c .setup .pages) o
+  first-word = some-words (c .setup .pages) o d (starts-well (c .setup) o s)
 
   -- and so its work fits: a read's,
-  pub read-starts : isRead o ≡ true → workFits c (Read o 0 (readableWords c o)) ≡ true
-  read-starts r = work-together c (Read o 0 (readableWords c o)) (record {
+  pub read-starts : isRead o ≡ true → workFits c (Read o 0 (readableWords (c .setup) o)) ≡ true
+  read-starts r = work-together c (Read o 0 (readableWords (c .setup) o)) (record {
     kind = r;
     left = first-word;
     asked = rw r at s;
-    readable = eq-eqb (readableWords c o) _ refl;
+    readable = eq-eqb (readableWords (c .setup) o) _ refl;
     queued = empty;
   })
 
@@ -96,7 +97,7 @@ module _ (c : Controller) (o : Operation) (d : 10 ≤ c .pages) (empty : isEmpty
   -- and an erase's.
   pub erase-starts : isRead o ≡ false → isProgram o ≡ false → workFits c (Erase o 0) ≡ true
   erase-starts r p = work-together c (Erase o 0) (record {
-    kind = erase-kind o (well-formed o (starts-well c o s) .kind) r p;
+    kind = erase-kind o (well-formed o (starts-well (c .setup) o s) .kind) r p;
     left = first-word;
     asked = rw (r, or-false) at s;
     readable = refl;
@@ -104,7 +105,7 @@ module _ (c : Controller) (o : Operation) (d : 10 ≤ c .pages) (empty : isEmpty
   })
 
   -- So the work of whatever starts fits.
-  pub work-starts : workFits c (workOf c o) ≡ true
+  pub work-starts : workFits c (workOf (c .setup) o) ≡ true
   work-starts =
       by-test (isRead o) (λ r. rw r (read-starts r))
       (λ r. rw r (by-test (isProgram o) (λ p. rw p (program-starts r p)) (λ p. rw p (erase-starts r p))))

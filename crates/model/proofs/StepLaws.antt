@@ -18,6 +18,7 @@ use Rattle.model.specs.declared.Work.{Work}
 use Rattle.model.specs.declared.Work.the-variants.{Read, Program, Erase}
 use Rattle.model.specs.declared.Progress.{Progress}
 use Rattle.model.specs.declared.Progress.the-variants.{Idle, Running}
+use Rattle.model.specs.declared.Setup.{Setup}
 use Rattle.model.specs.declared.Controller.{Controller}
 use Rattle.model.specs.declared.Movement.the-variants.{None}
 use Rattle.model.specs.declared.Answer.the-variants.{Accepted}
@@ -27,14 +28,14 @@ use Rattle.model.proofs.Moving.{busy-ready, with-valid}
 
 -- ---- start
 
-module _ (c : Controller) (o : Operation) where
-  -- A denied read starts blank.
-  pub blank-work : (isRead o && isDenied (operationAnswer c o)) ≡ true → workOf c o ≡ Read o 0 0
-  unfolding readableWords
-  blank-work h = rw (and-left (isRead o) _ h, denied-if-told c o (and-right (isRead o) _ h))
+-- A denied read starts blank.
+pub blank-work : (s : Setup) (o : Operation) → (isRead o && isDenied (operationAnswer s o)) ≡ true → workOf s o ≡ Read o 0 0
+unfolding readableWords
+blank-work s o h = rw (and-left (isRead o) _ h, denied-if-told s o (and-right (isRead o) _ h))
 
+module _ (c : Controller) (o : Operation) where
   -- A start goes on to checks 5, 7, 8 and 9, or stops before them.
-  pub start-goes-on : accepts (startAnswer c) ≡ true → start c o ≡ started c o (operationAnswer c o)
+  pub start-goes-on : accepts (startAnswer c) ≡ true → start c o ≡ started c o (operationAnswer (c .setup) o)
   unfolding start
   start-goes-on h = rw h
 
@@ -91,10 +92,10 @@ pub data StepLeaves (c : Controller) (f : Flash) : Type 0 where
   same : step c f .flash ≡ f → StepLeaves c f
   programs : (o : Operation) (k : ℕ) → c .progress ≡ Running (Program o k)
       → step c f .flash
-      ≡ withWord f (placeOf (c .pages) o k) (programmed (stored f (placeOf (c .pages) o k)) (oldest (c .queues .programs)))
+      ≡ withWord f (placeOf (c .setup .pages) o k) (programmed (stored f (placeOf (c .setup .pages) o k)) (oldest (c .queues .programs)))
       → StepLeaves c f
   erases : (o : Operation) (k : ℕ) → c .progress ≡ Running (Erase o k)
-      → step c f .flash ≡ withWord f (placeOf (c .pages) o k) allOnes → StepLeaves c f
+      → step c f .flash ≡ withWord f (placeOf (c .setup .pages) o k) allOnes → StepLeaves c f
 
 -- By what is in progress,
 by-work : (c : Controller) (f : Flash) (w : Work) → c .progress ≡ Running w → step c f .flash ≡ advance c f w .flash → StepLeaves c f

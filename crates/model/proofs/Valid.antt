@@ -17,6 +17,7 @@ use Rattle.model.specs.Checks.{operationAnswer}
 use Rattle.model.specs.Valid.{all, settingsFit, errorsFit, bothEmpty, queuesFit, progressFits, runningFits, valid}
 use Rattle.model.specs.declared.Queue.{Queue}
 use Rattle.model.specs.declared.Operation.{Operation}
+use Rattle.model.specs.declared.Setup.{Setup}
 use Rattle.model.specs.declared.Controller.{Controller}
 use Rattle.model.proofs.Bool.{and-left, and-right}
 use Rattle.model.proofs.Answers.{asked-in-range}
@@ -24,8 +25,8 @@ use Rattle.model.proofs.Answers.{asked-in-range}
 -- ---- a valid state, part by part
 
 pub record ValidParts (c : Controller) : Type 0 where
-  pub pages : pagesFit (c .pages) ≡ true
-  pub settings : settingsFit (c .pages) (c .settings) ≡ true
+  pub pages : pagesFit (c .setup .pages) ≡ true
+  pub settings : settingsFit (c .setup .pages) (c .setup .settings) ≡ true
   pub errors : errorsFit (c .errors) ≡ true
   pub reads : c .queues .reads .len ≤ 16
   pub programs : c .queues .programs .len ≤ 16
@@ -39,15 +40,15 @@ valid-parts c h =
     let ready : Bool = isReady (c .phase) in
     let fits : Queue → Bool = λ q. leb (q .len) 16 in
     let both : Bool = fits (c .queues .reads) && fits (c .queues .programs) in
-    let h₁ = and-right (pagesFit (c .pages)) _ h in
-    let h₂ = and-right (settingsFit (c .pages) (c .settings)) _ h₁ in
+    let h₁ = and-right (pagesFit (c .setup .pages)) _ h in
+    let h₂ = and-right (settingsFit (c .setup .pages) (c .setup .settings)) _ h₁ in
     let h₃ = and-right (errorsFit (c .errors)) _ h₂ in
     let h₄ = and-right (queuesFit ready (c .queues)) _ h₃ in
     let queued = and-left (queuesFit ready (c .queues)) _ h₃ in
     let held = and-left both _ queued in
     record {
-      pages = and-left (pagesFit (c .pages)) _ h;
-      settings = and-left (settingsFit (c .pages) (c .settings)) _ h₁;
+      pages = and-left (pagesFit (c .setup .pages)) _ h;
+      settings = and-left (settingsFit (c .setup .pages) (c .setup .settings)) _ h₁;
       errors = and-left (errorsFit (c .errors)) _ h₂;
       reads = leb-true _ _ (and-left (fits (c .queues .reads)) _ held);
       programs = leb-true _ _ (and-right (fits (c .queues .reads)) _ held);
@@ -76,17 +77,17 @@ tested-all {l = l} {ok = ok} h t = sym (and-true ok) ∙ (rw (drop-of-length-le 
 -- ---- the readable words of a read
 
 -- Of a read whose checks accept it or deny it, the answer alone says how many words are readable.
-pub readable-by-answer : (c : Controller) (o : Operation) → (accepts (operationAnswer c o) || isDenied (operationAnswer c o)) ≡ true
-    → readableWords c o ≡ cond (isDenied (operationAnswer c o)) 0 (o .count)
+pub readable-by-answer : (s : Setup) (o : Operation) → (accepts (operationAnswer s o) || isDenied (operationAnswer s o)) ≡ true
+    → readableWords s o ≡ cond (isDenied (operationAnswer s o)) 0 (o .count)
 unfolding readableWords
-readable-by-answer c o h = rw (asked-in-range c o h .2)
+readable-by-answer s o h = rw (asked-in-range s o h .2)
 
 -- So a test of them may go by the answer.
 by-passing : (p : Bool) {x y : Bool} → (p ≡ true → x ≡ y) → (p && x) ≡ (p && y)
 by-passing true e = e refl
 by-passing false e = refl
 
-pub readable-test : (c : Controller) (o : Operation) (readable : ℕ) (e : Bool)
-    → ((accepts (operationAnswer c o) || isDenied (operationAnswer c o)) && (eqb readable (cond (isDenied (operationAnswer c o)) 0 (o .count)) && e))
-    ≡ ((accepts (operationAnswer c o) || isDenied (operationAnswer c o)) && (eqb readable (readableWords c o) && e))
-readable-test c o readable e = by-passing (accepts (operationAnswer c o) || isDenied (operationAnswer c o)) (λ h. rw (readable-by-answer c o h))
+pub readable-test : (s : Setup) (o : Operation) (readable : ℕ) (e : Bool)
+    → ((accepts (operationAnswer s o) || isDenied (operationAnswer s o)) && (eqb readable (cond (isDenied (operationAnswer s o)) 0 (o .count)) && e))
+    ≡ ((accepts (operationAnswer s o) || isDenied (operationAnswer s o)) && (eqb readable (readableWords s o) && e))
+readable-test s o readable e = by-passing (accepts (operationAnswer s o) || isDenied (operationAnswer s o)) (λ h. rw (readable-by-answer s o h))

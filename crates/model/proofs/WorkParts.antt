@@ -15,6 +15,7 @@ use Rattle.model.specs.declared.Queue.{Queue}
 use Rattle.model.specs.declared.Operation.{Operation}
 use Rattle.model.specs.declared.Work.{Work}
 use Rattle.model.specs.declared.Work.the-variants.{Read, Program, Erase}
+use Rattle.model.specs.declared.Setup.{Setup}
 use Rattle.model.specs.declared.Controller.{Controller}
 use Rattle.model.proofs.Bool.{and-left, and-right}
 
@@ -42,16 +43,16 @@ kindFits (Program o k) = isProgram o
 kindFits (Erase o k) = isPageErase o || isBankErase o
 
 -- it passes 5, 7, 8 and 9, or is a read that 9 denies;
-abbrev pub askedFits : Controller → Work → Bool
-askedFits c (Read o k r) = accepts (operationAnswer c o) || isDenied (operationAnswer c o)
-askedFits c (Program o k) = accepts (operationAnswer c o)
-askedFits c (Erase o k) = accepts (operationAnswer c o)
+abbrev pub askedFits : Setup → Work → Bool
+askedFits s (Read o k r) = accepts (operationAnswer s o) || isDenied (operationAnswer s o)
+askedFits s (Program o k) = accepts (operationAnswer s o)
+askedFits s (Erase o k) = accepts (operationAnswer s o)
 
 -- a read is blank if it is denied;
-abbrev pub readableFits : Controller → Work → Bool
-readableFits c (Read o k r) = eqb r (readableWords c o)
-readableFits c (Program o k) = true
-readableFits c (Erase o k) = true
+abbrev pub readableFits : Setup → Work → Bool
+readableFits s (Read o k r) = eqb r (readableWords s o)
+readableFits s (Program o k) = true
+readableFits s (Erase o k) = true
 
 -- and the program queue holds words of a program only, at most n pushed in all.
 abbrev pub queuedFits : Queue → Work → Bool
@@ -61,17 +62,17 @@ queuedFits q (Erase o k) = isEmpty q
 
 pub record WorkParts (c : Controller) (w : Work) : Type 0 where
   pub kind : kindFits w ≡ true
-  pub left : movedOf w < totalWords (c .pages) (operationOf w)
-  pub asked : askedFits c w ≡ true
-  pub readable : readableFits c w ≡ true
+  pub left : movedOf w < totalWords (c .setup .pages) (operationOf w)
+  pub asked : askedFits (c .setup) w ≡ true
+  pub readable : readableFits (c .setup) w ≡ true
   pub queued : queuedFits (c .queues .programs) w ≡ true
 
 -- Work fits if each part does, whatever its kind.
 each-part : (c : Controller) (w : Work)
     → workFits c w
     ≡ (kindFits w
-    && (ltb (movedOf w) (totalWords (c .pages) (operationOf w))
-    && (askedFits c w && (readableFits c w && queuedFits (c .queues .programs) w))))
+    && (ltb (movedOf w) (totalWords (c .setup .pages) (operationOf w))
+    && (askedFits (c .setup) w && (readableFits (c .setup) w && queuedFits (c .queues .programs) w))))
 unfolding workFits
 each-part c (Read o k r) = refl
 each-part c (Program o k) = refl
@@ -81,14 +82,14 @@ each-part c (Erase o k) = refl
 pub work-parts : (c : Controller) (w : Work) → workFits c w ≡ true → WorkParts c w
 work-parts c w h =
     let h₁ = and-right (kindFits w) _ (rw each-part at h) in
-    let h₂ = and-right (ltb (movedOf w) (totalWords (c .pages) (operationOf w))) _ h₁ in
-    let h₃ = and-right (askedFits c w) _ h₂ in
+    let h₂ = and-right (ltb (movedOf w) (totalWords (c .setup .pages) (operationOf w))) _ h₁ in
+    let h₃ = and-right (askedFits (c .setup) w) _ h₂ in
     record {
       kind = and-left (kindFits w) _ (rw each-part at h);
-      left = ltb-true _ _ (and-left (ltb (movedOf w) (totalWords (c .pages) (operationOf w))) _ h₁);
-      asked = and-left (askedFits c w) _ h₂;
-      readable = and-left (readableFits c w) _ h₃;
-      queued = and-right (readableFits c w) _ h₃;
+      left = ltb-true _ _ (and-left (ltb (movedOf w) (totalWords (c .setup .pages) (operationOf w))) _ h₁);
+      asked = and-left (askedFits (c .setup) w) _ h₂;
+      readable = and-left (readableFits (c .setup) w) _ h₃;
+      queued = and-right (readableFits (c .setup) w) _ h₃;
     }
 
 -- and work with each part fits.

@@ -6,7 +6,7 @@ use lib.Dec.{eqb}
 use lib.ListN.{replicate}
 use Rattle.model.specs.Geometry.{infoCount, byteAddress, firstWord, dataImagePage, specialPage, creatorPage}
 use Rattle.model.specs.Words.{allOnes}
-use Rattle.model.specs.State.{Flash, Leaves, stored, freshController}
+use Rattle.model.specs.State.{Flash, flash, Leaves, stored, freshController}
 use Rattle.model.specs.Refusals.{numberOf}
 use Rattle.model.specs.Settings.{setInputs, setRegion, setDefault, setInfo, setErase}
 use Rattle.model.specs.Lifecycle.{reset, initialise}
@@ -19,7 +19,7 @@ use Rattle.model.specs.declared.Stepped.{Stepped}
 -- ---- controllers made by reset, inputs, settings and initialise
 
 abbrev pub blank : ℕ → Flash
-blank n = record { words = replicate n allOnes }
+blank n = flash (replicate n allOnes)
 
 -- Every right on the first n information pages of a type.
 unfoldable pub openPages : ℕ → ℕ → ℕ → Controller → Controller

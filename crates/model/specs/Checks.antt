@@ -9,7 +9,7 @@ use Rattle.model.specs.Rights.{denied}
 use Rattle.model.specs.Refusals.{check, orElse}
 use Rattle.model.specs.declared.ByteAddress.{ByteAddress}
 use Rattle.model.specs.declared.Operation.{Operation}
-use Rattle.model.specs.declared.Controller.{Controller}
+use Rattle.model.specs.declared.Setup.{Setup}
 use Rattle.model.specs.declared.Answer.{Answer}
 use Rattle.model.specs.declared.Answer.the-variants.{Malformed, OutOfRange, CrossesWindow, Denied}
 
@@ -53,9 +53,9 @@ crossesWindow o =
     && not (eqb (o .address .0 / windowBytes) ((o .address .0 + 4 * o .count - 1) / windowBytes))
 
 -- Checks 5, 7, 8 and 9, in this order: the first that applies answers.
-unfoldable pub operationAnswer : Controller → Operation → Answer
-operationAnswer c o =
+unfoldable pub operationAnswer : Setup → Operation → Answer
+operationAnswer s o =
     orElse (check (malformed o) Malformed)
-    (orElse (check (outOfRange (c .pages) o) OutOfRange)
+    (orElse (check (outOfRange (s .pages) o) OutOfRange)
     (orElse (check (crossesWindow o) CrossesWindow)
-    (check (denied c o) Denied)))
+    (check (denied s o) Denied)))

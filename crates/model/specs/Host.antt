@@ -16,14 +16,15 @@ use Rattle.model.specs.Steps.{delivered}
 use Rattle.model.specs.declared.Page.{Page}
 use Rattle.model.specs.declared.BusWord.{BusWord}
 use Rattle.model.specs.declared.ByteAddress.{ByteAddress}
+use Rattle.model.specs.declared.Setup.{Setup}
 use Rattle.model.specs.declared.Controller.{Controller}
 use Rattle.model.specs.declared.Fetched.{Fetched}
 use Rattle.model.specs.declared.Answer.{Answer}
 use Rattle.model.specs.declared.Answer.the-variants.{Malformed, OutOfRange, Denied}
 
 -- A host read or page view needs the read right on its data page.
-abbrev pub unreadable : Controller → Page → Bool
-unreadable c p = not (grants (rightsAt c false 0 p) readRight)
+abbrev pub unreadable : Setup → Page → Bool
+unreadable s p = not (grants (rightsAt s false 0 p) readRight)
 
 -- ---- host read: checks 1, 2, 3, 5, 7 and 9
 
@@ -31,14 +32,14 @@ unfoldable pub hostAnswer : Controller → Flash → ByteAddress → Answer
 hostAnswer c f a =
     orElse (readyAnswer (validWith c f) (c .phase))
     (orElse (check (unaligned a) Malformed)
-    (orElse (check (pastData (c .pages) a) OutOfRange)
-    (check (unreadable c (pageOf a)) Denied)))
+    (orElse (check (pastData (c .setup .pages) a) OutOfRange)
+    (check (unreadable (c .setup) (pageOf a)) Denied)))
 
 unfoldable pub hostRead : Controller → Flash → ByteAddress → Fetched
 hostRead c f a = record {
   controller = c;
   answer = hostAnswer c f a;
-  word = cond (accepts (hostAnswer c f a)) (delivered f (wordAt (c .pages) false 0 a)) 0;
+  word = cond (accepts (hostAnswer c f a)) (delivered f (wordAt (c .setup .pages) false 0 a)) 0;
 }
 
 -- ---- view: checks 1, 2, 3, 7 and 9; a page number past 2D - 1 is 7
@@ -46,8 +47,8 @@ hostRead c f a = record {
 unfoldable pub viewAnswer : Controller → Flash → Page → Answer
 viewAnswer c f p =
     orElse (readyAnswer (validWith c f) (c .phase))
-    (orElse (check (leb (dataPages (c .pages)) (p .0)) OutOfRange)
-    (check (unreadable c p) Denied))
+    (orElse (check (leb (dataPages (c .setup .pages)) (p .0)) OutOfRange)
+    (check (unreadable (c .setup) p) Denied))
 
 -- A view is the page's own 256 words inside the lent image: its number, where it starts in the image, and its words.
 -- Refused, it is empty, and starts where the image does.
@@ -59,8 +60,8 @@ pub record View : Type 0 where
 abbrev pub viewOf : Controller → Flash → Page → Answer → View
 viewOf c f p a = record {
   number = numberOf a;
-  start = cond (accepts a) (firstWord (imagePage (c .pages) false 0 p)) (record { 0 = 0 });
-  words = cond (accepts a) (take pageWords (drop (firstWord (imagePage (c .pages) false 0 p) .0) (f .words))) [];
+  start = cond (accepts a) (firstWord (imagePage (c .setup .pages) false 0 p)) (record { 0 = 0 });
+  words = cond (accepts a) (take pageWords (drop (firstWord (imagePage (c .setup .pages) false 0 p) .0) (f .words))) [];
 }
 
 unfoldable pub view : Controller → Flash → Page → View

@@ -6,7 +6,7 @@ use lib.Dec.{ltb, eqb}
 use lib.ListN.{take, drop, replicate}
 use Rattle.model.specs.Geometry.{pagesFit, bankPages, firstWord, imagePageOf, specialPage, creatorPage, ownerPage, isolatedPage}
 use Rattle.model.specs.Words.{allOnes}
-use Rattle.model.specs.State.{Flash, Leaves, withPhase, withQueues, emptyQueues, freshController, isReady, isBusy}
+use Rattle.model.specs.State.{Flash, flash, Leaves, withPhase, withQueues, emptyQueues, freshController, isReady, isBusy}
 use Rattle.model.specs.Refusals.{accepts, check, orElse, settle}
 use Rattle.model.specs.Valid.{validWith}
 use Rattle.model.specs.declared.BusWord.{BusWord}
@@ -58,7 +58,7 @@ unfoldable pub initialise : Controller → Flash → Initialised
 initialise c f = record {
   controller = cond (accepts (initialiseAnswer c f)) (withPhase c phase.Ready) c;
   answer = initialiseAnswer c f;
-  seeds = cond (accepts (initialiseAnswer c f) && c .inputs .provision) (seedsOf (c .pages) f) noSeeds;
+  seeds = cond (accepts (initialiseAnswer c f) && c .setup .inputs .provision) (seedsOf (c .setup .pages) f) noSeeds;
 }
 
 -- ---- RMA
@@ -95,5 +95,5 @@ rmaController c = withPhase (withQueues c emptyQueues) phase.Disabled
 unfoldable pub rma : Controller → Flash → Leaves Outcome
 rma c f = record {
   result = settle c (rmaController c) (rmaAnswer c f);
-  flash = cond (accepts (rmaAnswer c f)) (record { words = wiped (c .pages) 0 (f .words) }) f;
+  flash = cond (accepts (rmaAnswer c f)) (flash (wiped (c .setup .pages) 0 (f .words))) f;
 }

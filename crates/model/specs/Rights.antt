@@ -15,7 +15,7 @@ use Rattle.model.specs.declared.Region.{Region}
 use Rattle.model.specs.declared.PageSetting.{PageSetting}
 use Rattle.model.specs.declared.Settings.{Settings}
 use Rattle.model.specs.declared.Operation.{Operation}
-use Rattle.model.specs.declared.Controller.{Controller}
+use Rattle.model.specs.declared.Setup.{Setup}
 
 -- Rights are numbers that add up: one of them is among them.
 abbrev pub grants : ℕ → ℕ → Bool
@@ -49,14 +49,14 @@ infoRights i s page = cond (seedClosed i page) 0 (pageRights (getD (s .info) pag
 
 -- ---- the look-up, for either partition; denied pages have no rights
 
-unfoldable pub rightsAt : Controller → Bool → ℕ → Page → ℕ
-rightsAt c information t p =
+unfoldable pub rightsAt : Setup → Bool → ℕ → Page → ℕ
+rightsAt s information t p =
     cond information
-    (infoRights (c .inputs) (c .settings) (infoIndex (bankOf (c .pages) p) t (pageInBank (c .pages) p)))
-    (dataRights (c .settings .regions) (c .settings .«default_rights») p)
+    (infoRights (s .inputs) (s .settings) (infoIndex (bankOf (s .pages) p) t (pageInBank (s .pages) p)))
+    (dataRights (s .settings .regions) (s .settings .«default_rights») p)
 
-abbrev pub pageGrants : Controller → Operation → ℕ → Bool
-pageGrants c o p = grants (rightsAt c (isInformation o) (o .info) (record { 0 = p })) (rightNeeded o)
+abbrev pub pageGrants : Setup → Operation → ℕ → Bool
+pageGrants s o p = grants (rightsAt s (isInformation o) (o .info) (record { 0 = p })) (rightNeeded o)
 
 -- ---- an operation's span
 
@@ -70,18 +70,18 @@ abbrev pub spanPages : Operation → ℕ
 spanPages o = (spanStart o .0 % pageBytes + 4 * spanWords o + (pageBytes - 1)) / pageBytes
 
 -- The words before the first page without the right, or all of the span's words if every page has it.
-unfoldable pub allowedWords : Controller → Operation → ℕ
-allowedWords c o =
+unfoldable pub allowedWords : Setup → Operation → ℕ
+allowedWords s o =
     min (spanWords o)
-    (leading (pageGrants c o) (pageOf (spanStart o) .0) (spanPages o) * pageWords - wordInPage (spanStart o))
+    (leading (pageGrants s o) (pageOf (spanStart o) .0) (spanPages o) * pageWords - wordInPage (spanStart o))
 
 -- Bank erase looks only at its bank's permission, even over seed pages (000). Every page of another span needs the right.
-unfoldable pub denied : Controller → Operation → Bool
-denied c o =
+unfoldable pub denied : Setup → Operation → Bool
+denied s o =
     cond (isBankErase o)
-    (not (getD (c .settings .erase) (bankOf (c .pages) (pageOf (o .address))) false))
-    (ltb (allowedWords c o) (spanWords o))
+    (not (getD (s .settings .erase) (bankOf (s .pages) (pageOf (o .address))) false))
+    (ltb (allowedWords s o) (spanWords o))
 
 -- How many words of a read are the stored ones: all, or none if one of its pages denies it (01: the whole read is blank).
-unfoldable pub readableWords : Controller → Operation → ℕ
-readableWords c o = cond (denied c o) 0 (o .count)
+unfoldable pub readableWords : Setup → Operation → ℕ
+readableWords s o = cond (denied s o) 0 (o .count)

@@ -38,14 +38,14 @@ withRegion s i g = record {
 
 unfoldable pub setRegion : Controller → ℕ → Region → Outcome
 setRegion c i g =
-    settle c (withSettings c (withRegion (c .settings) i g)) (settingAnswer c (ltb i 8 && regionFits (c .pages) g))
+    settle c (withSettings c (withRegion (c .setup .settings) i g)) (settingAnswer c (ltb i 8 && regionFits (c .setup .pages) g))
 
 -- The default rights.
 abbrev pub withDefault : Settings → ℕ → Settings
 withDefault s r = record { regions = s .regions; «default_rights» = r; info = s .info; erase = s .erase }
 
 unfoldable pub setDefault : Controller → ℕ → Outcome
-setDefault c r = settle c (withSettings c (withDefault (c .settings) r)) (settingAnswer c (rightsFit r))
+setDefault c r = settle c (withSettings c (withDefault (c .setup .settings) r)) (settingAnswer c (rightsFit r))
 
 -- An information page, by its bank, its type and its number in the type.
 abbrev pub withPage : Settings → ℕ → PageSetting → Settings
@@ -61,7 +61,7 @@ infoExists bank t page = ltb bank 2 && (ltb t 3 && ltb page (infoCount t))
 
 unfoldable pub setInfo : Controller → ℕ → ℕ → ℕ → PageSetting → Outcome
 setInfo c bank t page p =
-    settle c (withSettings c (withPage (c .settings) (infoIndex bank t page) p))
+    settle c (withSettings c (withPage (c .setup .settings) (infoIndex bank t page) p))
     (settingAnswer c (infoExists bank t page && pageFits p))
 
 -- A bank's erase permission.
@@ -74,4 +74,4 @@ withErase s bank on = record {
 }
 
 unfoldable pub setErase : Controller → ℕ → Bool → Outcome
-setErase c bank on = settle c (withSettings c (withErase (c .settings) bank on)) (settingAnswer c (ltb bank 2))
+setErase c bank on = settle c (withSettings c (withErase (c .setup .settings) bank on)) (settingAnswer c (ltb bank 2))

@@ -19,18 +19,23 @@ use Rattle.model.specs.declared.Queue.{Queue}
 use Rattle.model.specs.declared.Queues.{Queues}
 use Rattle.model.specs.declared.Progress.{Progress}
 use Rattle.model.specs.declared.Progress.the-variants.{Idle, Running}
+use Rattle.model.specs.declared.Setup.{Setup}
 use Rattle.model.specs.declared.Controller.{Controller}
 
 -- The flash that a caller lends: the bus words of the image.
 pub record Flash : Type 0 where
   pub words : List ℕ
 
+-- The flash of these words: contracts name a lent image by it.
+abbrev pub flash : List ℕ → Flash
+flash ws = record { words = ws }
+
 -- The word stored at a place, and the flash with another word there.
 abbrev pub stored : Flash → BusWord → ℕ
 stored f p = getD (f .words) (p .0) 0
 
 abbrev pub withWord : Flash → BusWord → ℕ → Flash
-withWord f p w = record { words = set (f .words) (p .0) w }
+withWord f p w = flash (set (f .words) (p .0) w)
 
 -- The image is as long as D says. (01, refusal 1)
 abbrev pub imageFits : ℕ → Flash → Bool
@@ -52,34 +57,25 @@ wordsOf f q = take pageWords (drop (firstWord q .0) (f .words))
 
 -- ---- one part changed, the others as they were
 
-abbrev pub withPhase : Controller → Phase → Controller
-withPhase c p = record {
-  pages = c .pages;
-  phase = p;
-  inputs = c .inputs;
-  settings = c .settings;
+abbrev pub withSetup : Controller → Setup → Controller
+withSetup c s = record {
+  setup = s;
+  phase = c .phase;
   errors = c .errors;
   queues = c .queues;
   progress = c .progress;
 }
 
 abbrev pub withInputs : Controller → Inputs → Controller
-withInputs c i = record {
-  pages = c .pages;
-  phase = c .phase;
-  inputs = i;
-  settings = c .settings;
-  errors = c .errors;
-  queues = c .queues;
-  progress = c .progress;
-}
+withInputs c i = withSetup c (record { pages = c .setup .pages; inputs = i; settings = c .setup .settings })
 
 abbrev pub withSettings : Controller → Settings → Controller
-withSettings c s = record {
-  pages = c .pages;
-  phase = c .phase;
-  inputs = c .inputs;
-  settings = s;
+withSettings c s = withSetup c (record { pages = c .setup .pages; inputs = c .setup .inputs; settings = s })
+
+abbrev pub withPhase : Controller → Phase → Controller
+withPhase c p = record {
+  setup = c .setup;
+  phase = p;
   errors = c .errors;
   queues = c .queues;
   progress = c .progress;
@@ -87,10 +83,8 @@ withSettings c s = record {
 
 abbrev pub withErrors : Controller → Errors → Controller
 withErrors c e = record {
-  pages = c .pages;
+  setup = c .setup;
   phase = c .phase;
-  inputs = c .inputs;
-  settings = c .settings;
   errors = e;
   queues = c .queues;
   progress = c .progress;
@@ -98,10 +92,8 @@ withErrors c e = record {
 
 abbrev pub withQueues : Controller → Queues → Controller
 withQueues c q = record {
-  pages = c .pages;
+  setup = c .setup;
   phase = c .phase;
-  inputs = c .inputs;
-  settings = c .settings;
   errors = c .errors;
   queues = q;
   progress = c .progress;
@@ -109,10 +101,8 @@ withQueues c q = record {
 
 abbrev pub withProgress : Controller → Progress → Controller
 withProgress c p = record {
-  pages = c .pages;
+  setup = c .setup;
   phase = c .phase;
-  inputs = c .inputs;
-  settings = c .settings;
   errors = c .errors;
   queues = c .queues;
   progress = p;
@@ -152,10 +142,8 @@ emptyQueues = record { reads = emptyQueue; programs = emptyQueue }
 -- (01: fresh)
 abbrev pub freshController : ℕ → Controller
 freshController d = record {
-  pages = d;
+  setup = record { pages = d; inputs = inputsOff; settings = settingsOff };
   phase = Uninitialised;
-  inputs = inputsOff;
-  settings = settingsOff;
   errors = noErrors;
   queues = emptyQueues;
   progress = Idle;

@@ -19,6 +19,7 @@ use Rattle.model.specs.declared.Work.{Work}
 use Rattle.model.specs.declared.Work.the-variants.{Read, Program, Erase}
 use Rattle.model.specs.declared.Progress.{Progress}
 use Rattle.model.specs.declared.Progress.the-variants.{Idle, Running}
+use Rattle.model.specs.declared.Setup.{Setup}
 use Rattle.model.specs.declared.Controller.{Controller}
 use Rattle.model.specs.declared.Outcome.{Outcome}
 use Rattle.model.specs.declared.Fetched.{Fetched}
@@ -34,15 +35,15 @@ unfoldable pub startAnswer : Controller → Answer
 startAnswer c = orElse (readyAnswer (valid c) (c .phase)) (check (isBusy (c .progress)) Busy)
 
 -- The work of an operation, none of its words moved.
-abbrev pub workOf : Controller → Operation → Work
-workOf c o = cond (isRead o) (Read o 0 (readableWords c o)) (cond (isProgram o) (Program o 0) (Erase o 0))
+abbrev pub workOf : Setup → Operation → Work
+workOf s o = cond (isRead o) (Read o 0 (readableWords s o)) (cond (isProgram o) (Program o 0) (Erase o 0))
 
 -- An accepted operation starts, and so does a denied read (01: blank).
 abbrev pub starts : Operation → Answer → Bool
 starts o a = accepts a || (isRead o && isDenied a)
 
 abbrev pub progressAfter : Controller → Operation → Answer → Progress
-progressAfter c o a = cond (starts o a) (Running (workOf c o)) (c .progress)
+progressAfter c o a = cond (starts o a) (Running (workOf (c .setup) o)) (c .progress)
 
 -- What checks 5, 7, 8 and 9 leave.
 abbrev pub started : Controller → Operation → Answer → Outcome
@@ -54,7 +55,7 @@ started c o a = record {
 unfoldable pub start : Controller → Operation → Outcome
 start c o =
     cond (accepts (startAnswer c))
-    (started c o (operationAnswer c o))
+    (started c o (operationAnswer (c .setup) o))
     (record { controller = c; answer = startAnswer c })
 
 -- ---- push: checks 1, 2, 3, 12 (no program, or n already pushed), 11
@@ -98,8 +99,8 @@ unfoldable pub delivered : Flash → BusWord → ℕ
 delivered f p = stored f p
 
 -- The bits that count as changed at a place.
-unfoldable pub countedBits : Controller → BusWord → ℕ → ℕ → ℕ
-countedBits c p old new = changedBits old new
+unfoldable pub countedBits : Setup → BusWord → ℕ → ℕ → ℕ
+countedBits s p old new = changedBits old new
 
 -- The step that moves word k of n is the last one when k + 1 is n.
 abbrev pub progressed : ℕ → ℕ → Work → Progress
@@ -120,7 +121,7 @@ moved c n k q next bits = record {
 -- It was stored at a place.
 abbrev pub stores : Controller → ℕ → ℕ → Queues → Work → BusWord → ℕ → Flash → Leaves Stepped
 stores c n k q next p new f = record {
-  result = moved c n k q next (countedBits c p (stored f p) new);
+  result = moved c n k q next (countedBits (c .setup) p (stored f p) new);
   flash = withWord f p new;
 }
 
@@ -131,20 +132,20 @@ stores c n k q next p new f = record {
 unfoldable pub advance : Controller → Flash → Work → Leaves Stepped
 advance c f (Read o k readable) = record {
   result =
-      moved c (totalWords (c .pages) o) k
+      moved c (totalWords (c .setup .pages) o) k
       (withReads (c .queues)
-      (pushed (c .queues .reads) (cond (ltb k readable) (delivered f (placeOf (c .pages) o k)) allOnes)))
+      (pushed (c .queues .reads) (cond (ltb k readable) (delivered f (placeOf (c .setup .pages) o k)) allOnes)))
       (Read o (k + 1) readable) 0;
   flash = f;
 }
 advance c f (Program o k) =
-    stores c (totalWords (c .pages) o) k
+    stores c (totalWords (c .setup .pages) o) k
     (withPrograms (c .queues) (popped (c .queues .programs)))
-    (Program o (k + 1)) (placeOf (c .pages) o k)
-    (programmed (stored f (placeOf (c .pages) o k)) (oldest (c .queues .programs))) f
+    (Program o (k + 1)) (placeOf (c .setup .pages) o k)
+    (programmed (stored f (placeOf (c .setup .pages) o k)) (oldest (c .queues .programs))) f
 advance c f (Erase o k) =
-    stores c (totalWords (c .pages) o) k (c .queues)
-    (Erase o (k + 1)) (placeOf (c .pages) o k) allOnes f
+    stores c (totalWords (c .setup .pages) o) k (c .queues)
+    (Erase o (k + 1)) (placeOf (c .setup .pages) o k) allOnes f
 
 -- Nothing moves, and nothing changes.
 abbrev pub still : Controller → Answer → Movement → Flash → Leaves Stepped

@@ -71,19 +71,19 @@ progressFits ready p = ready || not (isBusy p)
 unfoldable pub workFits : Controller → Work → Bool
 workFits c (Read o moved readable) =
     isRead o
-    && (ltb moved (totalWords (c .pages) o)
-    && ((accepts (operationAnswer c o) || isDenied (operationAnswer c o))
-    && (eqb readable (readableWords c o)
+    && (ltb moved (totalWords (c .setup .pages) o)
+    && ((accepts (operationAnswer (c .setup) o) || isDenied (operationAnswer (c .setup) o))
+    && (eqb readable (readableWords (c .setup) o)
     && isEmpty (c .queues .programs))))
 workFits c (Program o moved) =
     isProgram o
-    && (ltb moved (totalWords (c .pages) o)
-    && (accepts (operationAnswer c o)
+    && (ltb moved (totalWords (c .setup .pages) o)
+    && (accepts (operationAnswer (c .setup) o)
     && leb (moved + c .queues .programs .len) (o .count)))
 workFits c (Erase o moved) =
     (isPageErase o || isBankErase o)
-    && (ltb moved (totalWords (c .pages) o)
-    && (accepts (operationAnswer c o)
+    && (ltb moved (totalWords (c .setup .pages) o)
+    && (accepts (operationAnswer (c .setup) o)
     && isEmpty (c .queues .programs)))
 
 unfoldable pub runningFits : Controller → Progress → Bool
@@ -93,8 +93,8 @@ runningFits c (Running w) = workFits c w
 -- A state is valid (01: ours) exactly if all of this holds.
 unfoldable pub valid : Controller → Bool
 valid c =
-    pagesFit (c .pages)
-    && (settingsFit (c .pages) (c .settings)
+    pagesFit (c .setup .pages)
+    && (settingsFit (c .setup .pages) (c .setup .settings)
     && (errorsFit (c .errors)
     && (queuesFit (isReady (c .phase)) (c .queues)
     && (progressFits (isReady (c .phase)) (c .progress)
@@ -102,4 +102,4 @@ valid c =
 
 -- Check 1 of a call that is lent the flash: the state is valid, and the image as long as D says.
 unfoldable pub validWith : Controller → Flash → Bool
-validWith c f = valid c && imageFits (c .pages) f
+validWith c f = valid c && imageFits (c .setup .pages) f

@@ -101,5 +101,5 @@ drive d o s f b =
 unfoldable pub whole : Controller → Flash → Operation → List ℕ → WholeLeaves
 whole c f o b =
     cond (accepts (wholeAnswer c f))
-    (cond (shortBuffer o b) (unmoved c ShortBuffer f b) (drive (c .pages) o (start c o) f b))
+    (cond (shortBuffer o b) (unmoved c ShortBuffer f b) (drive (c .setup .pages) o (start c o) f b))
     (unmoved c (wholeAnswer c f) f b)

@@ -101,12 +101,18 @@ pub enum Progress {
     Running(Work),
 }
 
-// The whole state. `pages` is D, the number of data pages in each bank.
-pub struct Controller {
+// What checks 5, 7, 8 and 9 of an operation look at: `pages` is D, the number of data pages in each bank. Only reset, the
+// inputs and the settings change it.
+pub struct Setup {
     pub pages: u32,
-    pub phase: Phase,
     pub inputs: Inputs,
     pub settings: Settings,
+}
+
+// The whole state.
+pub struct Controller {
+    pub setup: Setup,
+    pub phase: Phase,
     pub errors: Errors,
     pub queues: Queues,
     pub progress: Progress,

@@ -4,6 +4,7 @@ ghost use mathlib.Core.Bool.{cond};
 ghost use Prim.Native.Nat.{_<_};
 ghost use lib.Dec.{ltb};
 ghost use lib.ListN.{length};
+ghost use Rattle.model.specs.State.{flash};
 ghost use Rattle.model.specs.Words.{allOnes};
 ghost use Rattle.model.specs.Steps.{stalls, delivered, moved};
 use model::Answer;
@@ -63,7 +64,7 @@ pub fn moved(c: Controller, n: usize, k: u32, queues: Queues, next: Work, bits: 
 // The word that a read delivers next: the stored one, or ones where it is not readable.
 pub fn read_word(image: &[u32], place: BusWord, k: u32, readable: u32) -> u32
     requires { ⌜ place .0 < length (now image) ⌝ }
-    ensures { λ r. ⌜ r ≡ cond (ltb k readable) (delivered (record { words = now (image .entry) }) place) allOnes ⌝ }
+    ensures { λ r. ⌜ r ≡ cond (ltb k readable) (delivered (flash (now (image .entry))) place) allOnes ⌝ }
 {
     let at = place.0 as usize;
     if k < readable {

@@ -8,6 +8,7 @@ use model::Controller;
 use model::Operation;
 use model::Outcome;
 use model::Progress;
+use model::Setup;
 use model::Work;
 
 // Checks 1 to 4.
@@ -33,9 +34,9 @@ fn starts(o: Operation, answer: Answer) -> bool
 }
 
 // The work of an operation that starts; `answer` is that of its checks 5, 7, 8 and 9.
-fn work_of(c: Controller, o: Operation, answer: Answer) -> Work
-    requires { ⌜ (answer ≡ operationAnswer c o) × (starts o answer ≡ true) ⌝ }
-    ensures { λ r. ⌜ r ≡ workOf c o ⌝ }
+fn work_of(s: Setup, o: Operation, answer: Answer) -> Work
+    requires { ⌜ (answer ≡ operationAnswer s o) × (starts o answer ≡ true) ⌝ }
+    ensures { λ r. ⌜ r ≡ workOf s o ⌝ }
 {
     if places::is_read(o) {
         let readable = state::readable_by(answer, o);
@@ -53,14 +54,15 @@ fn work_of(c: Controller, o: Operation, answer: Answer) -> Work
 
 // What checks 5, 7, 8 and 9 leave: a refusal is recorded, and what starts is in progress.
 fn started(c: Controller, o: Operation, answer: Answer) -> Outcome
-    requires { ⌜ answer ≡ operationAnswer c o ⌝ }
+    requires { ⌜ answer ≡ operationAnswer (c .setup) o ⌝ }
     ensures { λ r. ⌜ r ≡ started c o answer ⌝ }
 {
+    let setup = c.setup;
     let address = o.address;
     let errors = c.errors;
     let next = state::with_errors(c, state::recorded(answer, address, errors));
     if starts(o, answer) {
-        let work = work_of(c, o, answer);
+        let work = work_of(setup, o, answer);
         return Outcome {
             controller: state::with_progress(next, Progress::Running(work)),
             answer,
@@ -84,8 +86,9 @@ pub fn refused(c: Controller, answer: Answer) -> Outcome
 pub fn start(c: Controller, o: Operation) -> Outcome
     ensures { λ r. ⌜ r ≡ start c o ⌝ }
 {
+    let setup = c.setup;
     let first = start_answer(c);
-    let second = checks::operation_answer(c, o);
+    let second = checks::operation_answer(setup, o);
     let answer = refusals::or_else(first, second);
     if !refusals::accepts(first) {
         return refused(c, answer);

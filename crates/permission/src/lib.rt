@@ -5,26 +5,26 @@ ghost use Prim.Native.Nat.{_+_, _<_, _≤_};
 ghost use Rattle.model.specs.Rights.{pageGrants, leading, allowedWords, denied};
 ghost use Rattle.model.specs.Places.{spanWords};
 ghost use Rattle.model.specs.Checks.{malformed};
-use model::Controller;
 use model::Operation;
 use model::Page;
+use model::Setup;
 
-fn page_grants(c: Controller, o: Operation, p: u32) -> bool
-    ensures { λ r. ⌜ r ≡ pageGrants c o p ⌝ }
+fn page_grants(s: Setup, o: Operation, p: u32) -> bool
+    ensures { λ r. ⌜ r ≡ pageGrants s o p ⌝ }
 {
     let information = places::is_information(o);
-    let rights = rights::rights_at(c, information, o.info, Page(p));
+    let rights = rights::rights_at(s, information, o.info, Page(p));
     rights::grants(rights, places::right_needed(o))
 }
 
 // How many of the `count` pages from `from` on grant the operation, before the first that does not.
-fn leading_pages(c: Controller, o: Operation, from: u32, count: u32) -> u32
+fn leading_pages(s: Setup, o: Operation, from: u32, count: u32) -> u32
     requires { ⌜ from + count < 4294967296 ⌝ }
-    ensures { λ r. ⌜ (r ≡ leading (pageGrants c o) from count) × (r ≤ count) ⌝ }
+    ensures { λ r. ⌜ (r ≡ leading (pageGrants s o) from count) × (r ≤ count) ⌝ }
 {
     let mut i: u32 = 0;
     while i < count {
-        if !page_grants(c, o, from + i) {
+        if !page_grants(s, o, from + i) {
             return i;
         }
         i += 1;
@@ -33,15 +33,15 @@ fn leading_pages(c: Controller, o: Operation, from: u32, count: u32) -> u32
 }
 
 // The words before the first page without the right, or all if every page has it.
-pub fn allowed_words(c: Controller, o: Operation) -> u32
+pub fn allowed_words(s: Setup, o: Operation) -> u32
     requires { ⌜ spanWords o < 1048576 ⌝ }
-    ensures { λ r. ⌜ r ≡ allowedWords c o ⌝ }
+    ensures { λ r. ⌜ r ≡ allowedWords s o ⌝ }
 {
     let start = places::span_start(o);
     let words = places::span_words(o);
     let pages = (start.0 % 1024 + 4 * words + 1023) / 1024;
     let first = geometry::page_of(start);
-    let lead = leading_pages(c, o, first.0, pages) * 256;
+    let lead = leading_pages(s, o, first.0, pages) * 256;
     let skipped = geometry::word_in_page(start);
     if lead <= skipped {
         return 0;
@@ -51,16 +51,16 @@ pub fn allowed_words(c: Controller, o: Operation) -> u32
 }
 
 // Whether check 9 applies to an operation that passes check 5.
-pub fn denied(c: Controller, o: Operation) -> bool
+pub fn denied(s: Setup, o: Operation) -> bool
     requires { ⌜ malformed o ≡ false ⌝ }
-    ensures { λ r. ⌜ r ≡ denied c o ⌝ }
+    ensures { λ r. ⌜ r ≡ denied s o ⌝ }
 {
     if places::is_bank_erase(o) {
-        let settings = c.settings;
+        let settings = s.settings;
         let erase = settings.erase;
         let address = o.address;
-        let bank = geometry::bank_of(c.pages, geometry::page_of(address)) as usize;
+        let bank = geometry::bank_of(s.pages, geometry::page_of(address)) as usize;
         return !erase[bank];
     }
-    allowed_words(c, o) < places::span_words(o)
+    allowed_words(s, o) < places::span_words(o)
 }

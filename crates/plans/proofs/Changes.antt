@@ -45,28 +45,28 @@ whole-answers c f g o b same =
 -- It is as it was, or each word of an accepted program or erase is stored at its place.
 pub data WholeChanges (c : Controller) (f : Flash) (o : Operation) (b : List ℕ) : Type 0 where
   same : whole c f o b .flash ≡ f → WholeChanges c f o b
-  programs : accepts (operationAnswer c o) ≡ true → isProgram o ≡ true
-      → whole c f o b .flash ≡ storedFirst (c .pages) o (programming b) (totalWords (c .pages) o) f → WholeChanges c f o b
-  erases : accepts (operationAnswer c o) ≡ true → (isPageErase o || isBankErase o) ≡ true
-      → whole c f o b .flash ≡ storedFirst (c .pages) o erasing (totalWords (c .pages) o) f → WholeChanges c f o b
+  programs : accepts (operationAnswer (c .setup) o) ≡ true → isProgram o ≡ true
+      → whole c f o b .flash ≡ storedFirst (c .setup .pages) o (programming b) (totalWords (c .setup .pages) o) f → WholeChanges c f o b
+  erases : accepts (operationAnswer (c .setup) o) ≡ true → (isPageErase o || isBankErase o) ≡ true
+      → whole c f o b .flash ≡ storedFirst (c .setup .pages) o erasing (totalWords (c .setup .pages) o) f → WholeChanges c f o b
 
 module _ (c : Controller) (f : Flash) (o : Operation) (b : List ℕ) where
   by-plan : (p : Plan) → planOf c f o b ≡ p → whole c f o b .flash ≡ performed c f o b p .flash
   by-plan p e = rw (closed-form c f o b, e)
 
-  module _ (free : accepts (wholeAnswer c f) ≡ true) (room : shortBuffer o b ≡ false) (ok : accepts (operationAnswer c o) ≡ true) where
+  module _ (free : accepts (wholeAnswer c f) ≡ true) (room : shortBuffer o b ≡ false) (ok : accepts (operationAnswer (c .setup) o) ≡ true) where
     started-changes : WholeChanges c f o b
     unfolding planOf performed placesOf
     started-changes =
-        by-test (isRead o) (λ r. same (by-plan (Reads (placesOf (c .pages) o)) (rw (free, room, ok, r))))
+        by-test (isRead o) (λ r. same (by-plan (Reads (placesOf (c .setup .pages) o)) (rw (free, room, ok, r))))
         (λ r.
         by-test (isProgram o)
         (λ p.
         programs ok p
-        (by-plan (Programs (placesOf (c .pages) o)) (rw (free, room, ok, r, p)) ∙ sym (stored-firsts o (programming b) f (c .pages) _)))
+        (by-plan (Programs (placesOf (c .setup .pages) o)) (rw (free, room, ok, r, p)) ∙ sym (stored-firsts o (programming b) f (c .setup .pages) _)))
         (λ p.
         erases ok (work-parts c (Erase o 0) (erase-begun c f o b free room (rw ok) r p .work) .kind)
-        (by-plan (Erases (placesOf (c .pages) o)) (rw (free, room, ok, r, p)) ∙ sym (stored-firsts o erasing f (c .pages) _))))
+        (by-plan (Erases (placesOf (c .setup .pages) o)) (rw (free, room, ok, r, p)) ∙ sym (stored-firsts o erasing f (c .setup .pages) _))))
 
   pub whole-changes : WholeChanges c f o b
   unfolding planOf performed
@@ -75,9 +75,9 @@ module _ (c : Controller) (f : Flash) (o : Operation) (b : List ℕ) where
       (λ a.
       by-test (shortBuffer o b) (λ s. same (by-plan (Refused ShortBuffer) (rw (a, s))))
       (λ s.
-      by-test (accepts (operationAnswer c o)) (started-changes a s)
+      by-test (accepts (operationAnswer (c .setup) o)) (started-changes a s)
       (λ n.
-      by-test (isRead o && isDenied (operationAnswer c o))
+      by-test (isRead o && isDenied (operationAnswer (c .setup) o))
       (λ d. same (by-plan (Blank (o .count)) (rw (a, s, n, d))))
-      (λ d. same (by-plan (Recorded (operationAnswer c o)) (rw (a, s, n, d)))))))
+      (λ d. same (by-plan (Recorded (operationAnswer (c .setup) o)) (rw (a, s, n, d)))))))
       (λ a. same (by-plan (Refused (wholeAnswer c f)) (rw a)))

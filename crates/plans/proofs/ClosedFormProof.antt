@@ -34,37 +34,37 @@ module _ (c : Controller) (f : Flash) (o : Operation) (b : List ℕ) (free : acc
 
   -- ---- accepted
 
-  module _ (ok : accepts (operationAnswer c o) ≡ true) where
+  module _ (ok : accepts (operationAnswer (c .setup) o) ≡ true) where
     -- Then it starts,
-    begins : starts o (operationAnswer c o) ≡ true
+    begins : starts o (operationAnswer (c .setup) o) ≡ true
     begins = rw ok
 
     -- it is not denied,
-    undenied : isDenied (operationAnswer c o) ≡ false
-    undenied = rw (eqb-true (numberOf (operationAnswer c o)) 0 ok)
+    undenied : isDenied (operationAnswer (c .setup) o) ≡ false
+    undenied = rw (eqb-true (numberOf (operationAnswer (c .setup) o)) 0 ok)
 
     -- and the answer says so.
-    accepted : operationAnswer c o ≡ Accepted
-    accepted = answer-named c o (rw ok) ∙ rw undenied
+    accepted : operationAnswer (c .setup) o ≡ Accepted
+    accepted = answer-named (c .setup) o (rw ok) ∙ rw undenied
 
     -- A read delivers the words at its places,
-    read : isRead o ≡ true → Performs (Reads (placesOf (c .pages) o))
+    read : isRead o ≡ true → Performs (Reads (placesOf (c .setup .pages) o))
     unfolding Performs performed placesOf recorded
     read r =
-        let n = moving-words (c .pages) o (omega (arith, eqb-true (o .kind) 0 r)) in
-        let all : readableWords c o ≡ totalWords (c .pages) o = readable-by-answer c o (rw ok) ∙ rw undenied (sym n) in
+        let n = moving-words (c .setup .pages) o (omega (arith, eqb-true (o .kind) 0 r)) in
+        let all : readableWords (c .setup) o ≡ totalWords (c .setup .pages) o = readable-by-answer (c .setup) o (rw ok) ∙ rw undenied (sym n) in
         whole-read c f o b free room begins r
-        ∙ rw (all, read-all f (c .pages) o (totalWords (c .pages) o) (totalWords (c .pages) o) (omega arith), accepted, places-length)
+        ∙ rw (all, read-all f (c .setup .pages) o (totalWords (c .setup .pages) o) (totalWords (c .setup .pages) o) (omega arith), accepted, places-length)
 
     -- a program stores the buffer's words at them,
-    program : isRead o ≡ false → isProgram o ≡ true → Performs (Programs (placesOf (c .pages) o))
+    program : isRead o ≡ false → isProgram o ≡ true → Performs (Programs (placesOf (c .setup .pages) o))
     unfolding Performs performed placesOf recorded
     program r p =
         whole-program c f o b free room begins r p
         ∙ rw (stored-firsts o (programming b) f, changed-firsts o (programming b) f, accepted)
 
     -- and an erase stores ones.
-    erase : isRead o ≡ false → isProgram o ≡ false → Performs (Erases (placesOf (c .pages) o))
+    erase : isRead o ≡ false → isProgram o ≡ false → Performs (Erases (placesOf (c .setup .pages) o))
     unfolding Performs performed placesOf recorded
     erase r p =
         whole-erase c f o b free room begins r p ∙ rw (stored-firsts o erasing f, changed-firsts o erasing f, accepted)
@@ -72,18 +72,18 @@ module _ (c : Controller) (f : Flash) (o : Operation) (b : List ℕ) (free : acc
   -- ---- denied, or refused otherwise
 
   -- A denied read delivers ones.
-  blank : isRead o ≡ true → isDenied (operationAnswer c o) ≡ true → Performs (Blank (o .count))
+  blank : isRead o ≡ true → isDenied (operationAnswer (c .setup) o) ≡ true → Performs (Blank (o .count))
   unfolding Performs performed
   blank r d =
-      let n = moving-words (c .pages) o (omega (arith, eqb-true (o .kind) 0 r)) in
-      let asked : (accepts (operationAnswer c o) || isDenied (operationAnswer c o)) ≡ true = rw (d, or-true) in
-      let none : readableWords c o ≡ 0 = readable-by-answer c o asked ∙ rw d in
-      let named : operationAnswer c o ≡ Denied = answer-named c o asked ∙ rw d in
+      let n = moving-words (c .setup .pages) o (omega (arith, eqb-true (o .kind) 0 r)) in
+      let asked : (accepts (operationAnswer (c .setup) o) || isDenied (operationAnswer (c .setup) o)) ≡ true = rw (d, or-true) in
+      let none : readableWords (c .setup) o ≡ 0 = readable-by-answer (c .setup) o asked ∙ rw d in
+      let named : operationAnswer (c .setup) o ≡ Denied = answer-named (c .setup) o asked ∙ rw d in
       whole-read c f o b free room (rw (r, d, or-true)) r
       ∙ rw (none, read-blank, n, named)
 
   -- So each answer's plan is performed,
-  answered : Performs (planAnswered (c .pages) o (operationAnswer c o))
+  answered : Performs (planAnswered (c .setup .pages) o (operationAnswer (c .setup) o))
   unfolding Performs performed
   answered =
       ⊎-elim (λ ok. rw ok (
@@ -93,8 +93,8 @@ module _ (c : Controller) (f : Flash) (o : Operation) (b : List ℕ) (free : acc
       (λ e. rw e (
       ⊎-elim (λ d. rw d (blank (and-left _ _ d) (and-right (isRead o) _ d)))
       (λ d. rw d (whole-recorded c f o b free room (rw (e, d))))
-      (which (isRead o && isDenied (operationAnswer c o)))))
-      (which (accepts (operationAnswer c o)))
+      (which (isRead o && isDenied (operationAnswer (c .setup) o)))))
+      (which (accepts (operationAnswer (c .setup) o)))
 
   -- and it is the operation's plan.
   pub started : whole c f o b ≡ performed c f o b (planOf c f o b)

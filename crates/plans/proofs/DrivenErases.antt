@@ -10,6 +10,7 @@ use Rattle.model.specs.Geometry.{imageWords}
 use Rattle.model.specs.Kinds.{isProgram}
 use Rattle.model.specs.Places.{totalWords}
 use Rattle.model.specs.State.{Flash}
+use Rattle.model.specs.declared.Errors.{Errors}
 use Rattle.model.specs.declared.Operation.{Operation}
 use Rattle.model.specs.declared.Work.the-variants.{Erase}
 use Rattle.model.specs.declared.Controller.{Controller}
@@ -21,41 +22,41 @@ use Rattle.plans.proofs.Moves.{erase-queued, erase-moves}
 use Rattle.plans.proofs.Drives.{seen, steps-keep, pushes-same, pops-same}
 
 -- With k words moved.
-unfoldable pub eraseSeen : Controller → Operation → Flash → ℕ → Driven
-eraseSeen c o f k =
-    seen (stateAt c (Erase o 0) k (c .queues)) (storedFirst (c .pages) o erasing k f) [] [] (changedFirst c o erasing k f)
+unfoldable pub eraseSeen : Controller → Errors → Operation → Flash → ℕ → Driven
+eraseSeen c es o f k =
+    seen (stateAt c es (Erase o 0) k (c .queues)) (storedFirst (c .setup .pages) o erasing k f) [] [] (changedFirst (c .setup) o erasing k f)
 
 -- The flash and the bits are those of its first k words.
-pub record EraseDriven (c : Controller) (o : Operation) (f : Flash) (r : Driven) : Type 0 where
+pub record EraseDriven (c : Controller) (es : Errors) (o : Operation) (f : Flash) (r : Driven) : Type 0 where
   pub k : ℕ
-  pub upto : k ≤ totalWords (c .pages) o
-  pub is : r ≡ eraseSeen c o f k
+  pub upto : k ≤ totalWords (c .setup .pages) o
+  pub is : r ≡ eraseSeen c es o f k
 
-module _ (c : Controller) (o : Operation) (f : Flash) (b : Begun c (Erase o 0)) (l : length (f .words) ≡ imageWords (c .pages)) where
+module _ (c : Controller) (es : Errors) (o : Operation) (f : Flash) (b : Begun c es (Erase o 0)) (l : length (f .words) ≡ imageWords (c .setup .pages)) where
   -- So it is at the start,
-  pub erase-driven : EraseDriven c o f (seen (stateAt c (Erase o 0) 0 (c .queues)) f [] [] 0)
+  pub erase-driven : EraseDriven c es o f (seen (stateAt c es (Erase o 0) 0 (c .queues)) f [] [] 0)
   unfolding eraseSeen storedFirst changedFirst
   erase-driven = record { k = 0; upto = omega arith; is = refl }
 
-  module _ (r : Driven) (h : EraseDriven c o f r) where
+  module _ (r : Driven) (h : EraseDriven c es o f r) where
     -- after a push, which is refused,
-    pub erase-pushing : isProgram o ≡ false → (v : ℕ) → EraseDriven c o f (pushing v r)
+    pub erase-pushing : isProgram o ≡ false → (v : ℕ) → EraseDriven c es o f (pushing v r)
     unfolding eraseSeen
     erase-pushing p v = rw (pushes-same b (erase-queued b (h .upto)) _ [] [] _ r (h .is) p v) h
 
     -- after a pop, which is refused too,
-    pub erase-popping : EraseDriven c o f (popping r)
+    pub erase-popping : EraseDriven c es o f (popping r)
     unfolding eraseSeen
     erase-popping = rw (pops-same b (erase-queued b (h .upto)) _ [] [] _ r (h .is) (b .free .reads)) h
 
     -- and after a step, which moves the next word.
-    pub erase-stepping : EraseDriven c o f (stepping r)
+    pub erase-stepping : EraseDriven c es o f (stepping r)
     unfolding eraseSeen storedFirst changedFirst
     erase-stepping =
-        let long : length (storedFirst (c .pages) o erasing (h .k) f .words) ≡ imageWords (c .pages) =
-        stored-length o erasing f (c .pages) (h .k) ∙ l in
-        steps-keep b (erase-queued b (h .upto)) _ [] [] _ r (h .is) (EraseDriven c o f) long h λ more moves. record {
+        let long : length (storedFirst (c .setup .pages) o erasing (h .k) f .words) ≡ imageWords (c .setup .pages) =
+        stored-length o erasing f (c .setup .pages) (h .k) ∙ l in
+        steps-keep b (erase-queued b (h .upto)) _ [] [] _ r (h .is) (EraseDriven c es o f) long h λ more moves. record {
           k = suc (h .k);
           upto = more;
-          is = rw (h .is, erase-moves (storedFirst (c .pages) o erasing (h .k) f) long more b (erase-queued b (h .upto)), add-one (h .k));
+          is = rw (h .is, erase-moves (storedFirst (c .setup .pages) o erasing (h .k) f) long more b (erase-queued b (h .upto)), add-one (h .k));
         }

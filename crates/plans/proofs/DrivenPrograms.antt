@@ -17,6 +17,7 @@ use Rattle.model.specs.Queue.{queueOf, isEmpty, oldest}
 use Rattle.model.specs.State.{Flash, stored, withWord, withPrograms}
 use Rattle.model.specs.Refusals.{accepts}
 use Rattle.model.specs.Steps.{countedBits, stalls, pushAnswer}
+use Rattle.model.specs.declared.Errors.{Errors}
 use Rattle.model.specs.declared.Queue.{Queue}
 use Rattle.model.specs.declared.Operation.{Operation}
 use Rattle.model.specs.declared.Work.the-variants.{Program}
@@ -31,11 +32,11 @@ use Rattle.plans.proofs.Moves.{program-queued, program-moves, program-p
 use Rattle.plans.proofs.Drives.{seen, steps-keep, push-same, pops-same}
 
 -- With k of the pushed words moved and the others queued.
-unfoldable pub programSeen : Controller → Operation → ℕ → Queue → List ℕ → Flash → ℕ → Driven
-programSeen c o k q given f bits = seen (stateAt c (Program o 0) k (withPrograms (c .queues) q)) f given [] bits
+unfoldable pub programSeen : Controller → Errors → Operation → ℕ → Queue → List ℕ → Flash → ℕ → Driven
+programSeen c es o k q given f bits = seen (stateAt c es (Program o 0) k (withPrograms (c .queues) q)) f given [] bits
 
 -- The flash and the bits are those of the first k words of any buffer that begins with the pushed ones.
-pub record ProgramDriven (c : Controller) (o : Operation) (f : Flash) (r : Driven) : Type 0 where
+pub record ProgramDriven (c : Controller) (es : Errors) (o : Operation) (f : Flash) (r : Driven) : Type 0 where
   pub k : ℕ
   pub queue : Queue
   pub given : List ℕ
@@ -46,13 +47,13 @@ pub record ProgramDriven (c : Controller) (o : Operation) (f : Flash) (r : Drive
   pub few : length (drop k given) ≤ 16
   pub holds : Holds queue (drop k given)
   pub made : 0 < length given → queue ≡ queueOf (drop k given)
-  pub stores : (rest : List ℕ) → flash ≡ storedFirst (c .pages) o (programming (given ++ rest)) k f
-  pub counts : (rest : List ℕ) → bits ≡ changedFirst c o (programming (given ++ rest)) k f
-  pub is : r ≡ programSeen c o k queue given flash bits
+  pub stores : (rest : List ℕ) → flash ≡ storedFirst (c .setup .pages) o (programming (given ++ rest)) k f
+  pub counts : (rest : List ℕ) → bits ≡ changedFirst (c .setup) o (programming (given ++ rest)) k f
+  pub is : r ≡ programSeen c es o k queue given flash bits
 
-module _ (c : Controller) (o : Operation) (f : Flash) (b : Begun c (Program o 0)) (l : length (f .words) ≡ imageWords (c .pages)) where
+module _ (c : Controller) (es : Errors) (o : Operation) (f : Flash) (b : Begun c es (Program o 0)) (l : length (f .words) ≡ imageWords (c .setup .pages)) where
   -- So it is at the start,
-  pub program-driven : ProgramDriven c o f (seen (stateAt c (Program o 0) 0 (c .queues)) f [] [] 0)
+  pub program-driven : ProgramDriven c es o f (seen (stateAt c es (Program o 0) 0 (c .queues)) f [] [] 0)
   unfolding programSeen storedFirst changedFirst
   program-driven = record {
     k = 0;
@@ -70,7 +71,7 @@ module _ (c : Controller) (o : Operation) (f : Flash) (b : Begun c (Program o 0)
     is = refl;
   }
 
-  module _ (r : Driven) (h : ProgramDriven c o f r) where
+  module _ (r : Driven) (h : ProgramDriven c es o f r) where
     -- As many words are queued as were pushed and have not moved,
     left : length (drop (h .k) (h .given)) ≡ length (h .given) - h .k
     left = length-drop (h .k) (h .given)
@@ -80,12 +81,12 @@ module _ (c : Controller) (o : Operation) (f : Flash) (b : Begun c (Program o 0)
     fits = program-queued b (h .holds) (h .few) (rw left (omega (arith, h .upto, h .most)))
 
     -- and the image has its length.
-    long : length (h .flash .words) ≡ imageWords (c .pages)
-    long = rw (h .stores []) (stored-length o (programming (h .given ++ [])) f (c .pages) (h .k) ∙ l)
+    long : length (h .flash .words) ≡ imageWords (c .setup .pages)
+    long = rw (h .stores []) (stored-length o (programming (h .given ++ [])) f (c .setup .pages) (h .k) ∙ l)
 
     -- So it is after a push that is accepted,
     accepted : (v : ℕ) → h .k + length (drop (h .k) (h .given)) < o .count → length (drop (h .k) (h .given)) < 16
-        → ProgramDriven c o f (pushing v r)
+        → ProgramDriven c es o f (pushing v r)
     unfolding programSeen
     accepted v more room =
         let split : drop (h .k) (h .given ++ (v ∷ [])) ≡ drop (h .k) (h .given) ++ (v ∷ []) =
@@ -108,11 +109,11 @@ module _ (c : Controller) (o : Operation) (f : Flash) (b : Begun c (Program o 0)
         }
 
     -- and after any push,
-    pub program-pushing : (v : ℕ) → ProgramDriven c o f (pushing v r)
+    pub program-pushing : (v : ℕ) → ProgramDriven c es o f (pushing v r)
     unfolding programSeen stateAt
     program-pushing v =
-        let x : Controller = stateAt c (Program o 0) (h .k) (withPrograms (c .queues) (h .queue)) in
-        let n : ℕ = totalWords (c .pages) o in
+        let x : Controller = stateAt c es (Program o 0) (h .k) (withPrograms (c .queues) (h .queue)) in
+        let n : ℕ = totalWords (c .setup .pages) o in
         ⊎-elim (λ e.
         let (more, room) = push-room x o n (h .k) e in
         accepted v (rw (← h .holds .size) more) (rw (← h .holds .size) room))
@@ -120,26 +121,26 @@ module _ (c : Controller) (o : Operation) (f : Flash) (b : Begun c (Program o 0)
         (which (accepts (pushAnswer x (progressAt (Program o 0) n (h .k)))))
 
     -- after a pop, which is refused,
-    pub program-popping : ProgramDriven c o f (popping r)
+    pub program-popping : ProgramDriven c es o f (popping r)
     unfolding programSeen
     program-popping = rw (pops-same b fits (h .flash) (h .given) [] (h .bits) r (h .is) (b .free .reads)) h
 
     -- and after a step, which moves the next word
-    moves : h .k < totalWords (c .pages) o → isEmpty (h .queue) ≡ false → ProgramDriven c o f (stepping r)
+    moves : h .k < totalWords (c .setup .pages) o → isEmpty (h .queue) ≡ false → ProgramDriven c es o f (stepping r)
     unfolding programSeen storedFirst changedFirst
     moves more e =
         let some : h .k < length (h .given) = omega (arith, left, h .holds .size, eqb-false (h .queue .len) 0 e) in
         let first : oldest (h .queue) ≡ getD (h .given) (h .k) 0 =
         oldest-first (h .holds) ∙ getD-drop (h .k) (h .given) 0 0 ∙ rw add-zero in
         let rest : drop 1 (drop (h .k) (h .given)) ≡ drop (suc (h .k)) (h .given) = drop-drop 1 (h .k) (h .given) ∙ rw add-one in
-        let at = placeOf (c .pages) o (h .k) in
+        let at = placeOf (c .setup .pages) o (h .k) in
         let new : ℕ = programmed (stored (h .flash) at) (getD (h .given) (h .k) 0) in
         record {
           k = suc (h .k);
           queue = queueOf (drop (suc (h .k)) (h .given));
           given = h .given;
           flash = withWord (h .flash) at new;
-          bits = h .bits + countedBits c at (stored (h .flash) at) new;
+          bits = h .bits + countedBits (c .setup) at (stored (h .flash) at) new;
           upto = some;
           most = h .most;
           few = omega (arith, length-drop (suc (h .k)) (h .given), left, h .few);
@@ -151,6 +152,6 @@ module _ (c : Controller) (o : Operation) (f : Flash) (b : Begun c (Program o 0)
         }
 
     -- unless none is queued.
-    pub program-stepping : ProgramDriven c o f (stepping r)
+    pub program-stepping : ProgramDriven c es o f (stepping r)
     unfolding programSeen stalls
-    program-stepping = steps-keep b fits (h .flash) (h .given) [] (h .bits) r (h .is) (ProgramDriven c o f) long h moves
+    program-stepping = steps-keep b fits (h .flash) (h .given) [] (h .bits) r (h .is) (ProgramDriven c es o f) long h moves

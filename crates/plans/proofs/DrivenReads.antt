@@ -14,6 +14,7 @@ use Rattle.model.specs.Places.{totalWords}
 use Rattle.model.specs.Queue.{queueOf, isEmpty, isFull}
 use Rattle.model.specs.State.{Flash, withReads}
 use Rattle.model.specs.Steps.{stalls}
+use Rattle.model.specs.declared.Errors.{Errors}
 use Rattle.model.specs.declared.Queue.{Queue}
 use Rattle.model.specs.declared.Operation.{Operation}
 use Rattle.model.specs.declared.Work.the-variants.{Read}
@@ -28,26 +29,26 @@ use Rattle.plans.proofs.Moves.{read-queued, read-moves}
 use Rattle.plans.proofs.Drives.{seen, steps-keep, pushes-same, pops-same}
 
 -- With k words moved, some of them popped and the others queued.
-unfoldable pub readSeen : Controller → Operation → Flash → ℕ → ℕ → Queue → List ℕ → Driven
-readSeen c o f readable k q taken = seen (stateAt c (Read o 0 readable) k (withReads (c .queues) q)) f [] taken 0
+unfoldable pub readSeen : Controller → Errors → Operation → Flash → ℕ → ℕ → Queue → List ℕ → Driven
+readSeen c es o f readable k q taken = seen (stateAt c es (Read o 0 readable) k (withReads (c .queues) q)) f [] taken 0
 
 -- They are the read's first words, in order. The queue is made of its words once one has moved.
-pub record ReadDriven (c : Controller) (o : Operation) (f : Flash) (readable : ℕ) (r : Driven) : Type 0 where
+pub record ReadDriven (c : Controller) (es : Errors) (o : Operation) (f : Flash) (readable : ℕ) (r : Driven) : Type 0 where
   pub k : ℕ
   pub queue : Queue
   pub queued : List ℕ
   pub taken : List ℕ
-  pub upto : k ≤ totalWords (c .pages) o
+  pub upto : k ≤ totalWords (c .setup .pages) o
   pub holds : Holds queue queued
   pub few : length queued ≤ 16
   pub made : 0 < k → queue ≡ queueOf queued
-  pub order : taken ++ queued ≡ readFirst f (c .pages) o readable k
-  pub is : r ≡ readSeen c o f readable k queue taken
+  pub order : taken ++ queued ≡ readFirst f (c .setup .pages) o readable k
+  pub is : r ≡ readSeen c es o f readable k queue taken
 
-module _ (c : Controller) (o : Operation) (f : Flash) (readable : ℕ) (b : Begun c (Read o 0 readable))
-    (l : length (f .words) ≡ imageWords (c .pages)) where
+module _ (c : Controller) (es : Errors) (o : Operation) (f : Flash) (readable : ℕ) (b : Begun c es (Read o 0 readable))
+    (l : length (f .words) ≡ imageWords (c .setup .pages)) where
   -- So it is at the start,
-  pub read-driven : ReadDriven c o f readable (seen (stateAt c (Read o 0 readable) 0 (c .queues)) f [] [] 0)
+  pub read-driven : ReadDriven c es o f readable (seen (stateAt c es (Read o 0 readable) 0 (c .queues)) f [] [] 0)
   unfolding readSeen readFirst
   read-driven = record {
     k = 0;
@@ -62,20 +63,20 @@ module _ (c : Controller) (o : Operation) (f : Flash) (readable : ℕ) (b : Begu
     is = refl;
   }
 
-  module _ (r : Driven) (h : ReadDriven c o f readable r) where
+  module _ (r : Driven) (h : ReadDriven c es o f readable r) where
     -- The queues fit,
     fits : Queued c (Read o 0 readable) (h .k) (withReads (c .queues) (h .queue))
     fits = read-queued b (h .upto) (h .holds) (h .few)
 
     -- after a push, which is refused,
-    pub read-pushing : (v : ℕ) → ReadDriven c o f readable (pushing v r)
+    pub read-pushing : (v : ℕ) → ReadDriven c es o f readable (pushing v r)
     unfolding readSeen
     read-pushing v =
         let kind = eqb-true (o .kind) 0 (work-parts c (Read o 0 readable) (b .work) .kind) in
         rw (pushes-same b fits f [] (h .taken) 0 r (h .is) (rw kind) v) h
 
     -- after a pop, which takes the oldest word if there is one,
-    pub read-popping : ReadDriven c o f readable (popping r)
+    pub read-popping : ReadDriven c es o f readable (popping r)
     unfolding readSeen
     read-popping =
         ⊎-elim (λ e. rw (pops-same b fits f [] (h .taken) 0 r (h .is) e) h)
@@ -96,10 +97,10 @@ module _ (c : Controller) (o : Operation) (f : Flash) (readable : ℕ) (b : Begu
         (which (isEmpty (h .queue)))
 
     -- and after a step, which moves the next word unless the queue is full.
-    moves : h .k < totalWords (c .pages) o → isFull (h .queue) ≡ false → ReadDriven c o f readable (stepping r)
+    moves : h .k < totalWords (c .setup .pages) o → isFull (h .queue) ≡ false → ReadDriven c es o f readable (stepping r)
     unfolding readSeen readFirst
     moves more e =
-        let v : ℕ = readWord f (c .pages) o readable (h .k) in
+        let v : ℕ = readWord f (c .setup .pages) o readable (h .k) in
         let less : length (h .queued) < 16 = omega (arith, h .holds .size, leb-false 16 (h .queue .len) e) in
         record {
           k = suc (h .k);
@@ -115,6 +116,6 @@ module _ (c : Controller) (o : Operation) (f : Flash) (readable : ℕ) (b : Begu
         }
 
     -- So it is after any step.
-    pub read-stepping : ReadDriven c o f readable (stepping r)
+    pub read-stepping : ReadDriven c es o f readable (stepping r)
     unfolding readSeen stalls
-    read-stepping = steps-keep b fits f [] (h .taken) 0 r (h .is) (ReadDriven c o f readable) l h moves
+    read-stepping = steps-keep b fits f [] (h .taken) 0 r (h .is) (ReadDriven c es o f readable) l h moves

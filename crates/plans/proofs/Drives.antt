@@ -16,6 +16,7 @@ use Rattle.model.specs.State.{Flash}
 use Rattle.model.specs.Refusals.{accepts}
 use Rattle.model.specs.Steps.{stalls, push}
 use Rattle.model.specs.Order.{refusedOutcome}
+use Rattle.model.specs.declared.Errors.{Errors}
 use Rattle.model.specs.declared.Queues.{Queues}
 use Rattle.model.specs.declared.Work.{Work}
 use Rattle.model.specs.declared.Controller.{Controller}
@@ -30,10 +31,10 @@ use Rattle.plans.proofs.Running.{wordsOf, stateAt, Begun, Queued, steps
 abbrev pub seen : Controller → Flash → List ℕ → List ℕ → ℕ → Driven
 seen c f given taken bits = record { controller = c; flash = f; given = given; taken = taken; bits = bits }
 
-module _ {c : Controller} {w : Work} {k : ℕ} {q : Queues} (b : Begun c w) (fits : Queued c w k q) (f : Flash) (given taken : List ℕ)
-    (bits : ℕ) (r : Driven) (is : r ≡ seen (stateAt c w k q) f given taken bits) where
+module _ {c : Controller} {es : Errors} {w : Work} {k : ℕ} {q : Queues} (b : Begun c es w) (fits : Queued c w k q) (f : Flash) (given taken : List ℕ)
+    (bits : ℕ) (r : Driven) (is : r ≡ seen (stateAt c es w k q) f given taken bits) where
   -- A step keeps what it keeps where it moves a word: otherwise it is refused or waits, and changes nothing.
-  pub steps-keep : (P : Driven → Type 0) → length (f .words) ≡ imageWords (c .pages) → P r
+  pub steps-keep : (P : Driven → Type 0) → length (f .words) ≡ imageWords (c .setup .pages) → P r
       → (k < wordsOf c w → stalls q (atWord w k) ≡ false → P (stepping r)) → P (stepping r)
   steps-keep P l h move =
       ⊎-elim (λ done.
@@ -46,7 +47,7 @@ module _ {c : Controller} {w : Work} {k : ℕ} {q : Queues} (b : Begun c w) (fit
       (which (eqb k (wordsOf c w)))
 
   -- A refused push changes nothing,
-  pub push-same : (v : ℕ) (a : Answer) → accepts a ≡ false → push (stateAt c w k q) v ≡ refusedOutcome (stateAt c w k q) a
+  pub push-same : (v : ℕ) (a : Answer) → accepts a ≡ false → push (stateAt c es w k q) v ≡ refusedOutcome (stateAt c es w k q) a
       → pushing v r ≡ r
   push-same v a n e = rw (is, e, n)
 

@@ -16,7 +16,7 @@ use Rattle.model.specs.Places.{placeOf}
 use Rattle.model.specs.State.{Flash, stored, withWord}
 use Rattle.model.specs.Steps.{delivered, countedBits}
 use Rattle.model.specs.declared.Operation.{Operation}
-use Rattle.model.specs.declared.Controller.{Controller}
+use Rattle.model.specs.declared.Setup.{Setup}
 use Rattle.plans.specs.Plan.{placesFrom, deliveredAt, stored-all, changed-all}
 
 -- There are as many places as words.
@@ -80,12 +80,12 @@ storedFirst d o new (suc k) f =
     withWord (storedFirst d o new k f) (placeOf d o k) (new k (stored (storedFirst d o new k f) (placeOf d o k)))
 
 -- The bits that count as changed by them.
-unfoldable pub changedFirst : Controller → Operation → (ℕ → ℕ → ℕ) → ℕ → Flash → ℕ
-changedFirst c o new zero f = 0
-changedFirst c o new (suc k) f =
-    changedFirst c o new k f
-    + countedBits c (placeOf (c .pages) o k) (stored (storedFirst (c .pages) o new k f) (placeOf (c .pages) o k))
-    (new k (stored (storedFirst (c .pages) o new k f) (placeOf (c .pages) o k)))
+unfoldable pub changedFirst : Setup → Operation → (ℕ → ℕ → ℕ) → ℕ → Flash → ℕ
+changedFirst s o new zero f = 0
+changedFirst s o new (suc k) f =
+    changedFirst s o new k f
+    + countedBits s (placeOf (s .pages) o k) (stored (storedFirst (s .pages) o new k f) (placeOf (s .pages) o k))
+    (new k (stored (storedFirst (s .pages) o new k f) (placeOf (s .pages) o k)))
 
 module _ (o : Operation) (new : ℕ → ℕ → ℕ) (f : Flash) where
   -- The image keeps its length.
@@ -107,15 +107,15 @@ module _ (o : Operation) (new : ℕ → ℕ → ℕ) (f : Flash) where
   stored-firsts d n = sym (stored-from d n 0 ∙ rw zero-add)
 
   -- The places from word k on change as many bits as the later words do.
-  changed-from : (c : Controller) (n k : ℕ)
-      → changedFirst c o new k f + changed-all c new k (placesFrom (c .pages) o k n) (storedFirst (c .pages) o new k f)
-      ≡ changedFirst c o new (k + n) f
+  changed-from : (s : Setup) (n k : ℕ)
+      → changedFirst s o new k f + changed-all s new k (placesFrom (s .pages) o k n) (storedFirst (s .pages) o new k f)
+      ≡ changedFirst s o new (k + n) f
   unfolding storedFirst changedFirst
-  changed-from c zero k = simp add-zero
-  changed-from c (suc n) k =
-      let next : k + suc n ≡ suc k + n = omega arith in rw (next, add-one, ← add-assoc) (changed-from c n (suc k))
+  changed-from s zero k = simp add-zero
+  changed-from s (suc n) k =
+      let next : k + suc n ≡ suc k + n = omega arith in rw (next, add-one, ← add-assoc) (changed-from s n (suc k))
 
   -- and change as many bits.
-  pub changed-firsts : (c : Controller) (n : ℕ) → changedFirst c o new n f ≡ changed-all c new 0 (placesFrom (c .pages) o 0 n) f
+  pub changed-firsts : (s : Setup) (n : ℕ) → changedFirst s o new n f ≡ changed-all s new 0 (placesFrom (s .pages) o 0 n) f
   unfolding storedFirst changedFirst
-  changed-firsts c n = sym (sym (zero-add _) ∙ changed-from c n 0 ∙ rw zero-add)
+  changed-firsts s n = sym (sym (zero-add _) ∙ changed-from s n 0 ∙ rw zero-add)

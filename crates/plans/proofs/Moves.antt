@@ -14,6 +14,7 @@ use Rattle.model.specs.Queue.{queueOf, isEmpty, isFull, pushed, oldest, popped}
 use Rattle.model.specs.State.{Flash, Leaves, stored, withWord, withReads, withPrograms}
 use Rattle.model.specs.Refusals.{accepts}
 use Rattle.model.specs.Steps.{countedBits, movement, stalls, advance, step, pushAnswer, push}
+use Rattle.model.specs.declared.Errors.{Errors}
 use Rattle.model.specs.declared.Queue.{Queue}
 use Rattle.model.specs.declared.Queues.{Queues}
 use Rattle.model.specs.declared.Operation.{Operation}
@@ -25,22 +26,21 @@ use Rattle.model.specs.declared.Answer.the-variants.{Accepted}
 use Rattle.model.proofs.Bool.{by-test}
 use Rattle.model.proofs.Places.{moving-words}
 use Rattle.model.proofs.WorkParts.{work-parts}
-use Rattle.model.proofs.SameChecks.{same-counted}
 use Rattle.model.proofs.Accepting.{push-passed}
 use Rattle.plans.proofs.Holding.{Holds, holds-none, pushed-made}
 use Rattle.plans.proofs.Running.{progressAt, stateAt, Begun, Queued, steps-move, pushes}
 use Rattle.plans.proofs.Firsts.{readWord}
 
 -- A program moves as many words as it counts.
-pub program-words : {c : Controller} {o : Operation} → Begun c (Program o 0) → totalWords (c .pages) o ≡ o .count
-program-words {c} {o} b =
-    let kind = eqb-true (o .kind) 1 (work-parts c (Program o 0) (b .work) .kind) in moving-words (c .pages) o (omega arith)
+pub program-words : {c : Controller} {es : Errors} {o : Operation} → Begun c es (Program o 0) → totalWords (c .setup .pages) o ≡ o .count
+program-words {c = c} {o = o} b =
+    let kind = eqb-true (o .kind) 1 (work-parts c (Program o 0) (b .work) .kind) in moving-words (c .setup .pages) o (omega arith)
 
 -- ---- the queues
 
-module _ {c : Controller} {o : Operation} {k : ℕ} where
+module _ {c : Controller} {es : Errors} {o : Operation} {k : ℕ} where
   -- Of a read, the read queue holds words;
-  pub read-queued : {r : ℕ} {q : Queue} {ws : List ℕ} → Begun c (Read o 0 r) → k ≤ totalWords (c .pages) o → Holds q ws → length ws ≤ 16
+  pub read-queued : {r : ℕ} {q : Queue} {ws : List ℕ} → Begun c es (Read o 0 r) → k ≤ totalWords (c .setup .pages) o → Holds q ws → length ws ≤ 16
       → Queued c (Read o 0 r) k (withReads (c .queues) q)
   read-queued b h s n = record {
     upto = h;
@@ -50,7 +50,7 @@ module _ {c : Controller} {o : Operation} {k : ℕ} where
   }
 
   -- of a program, the program queue holds no more than are left to move;
-  pub program-queued : {q : Queue} {ws : List ℕ} → Begun c (Program o 0) → Holds q ws → length ws ≤ 16 → k + length ws ≤ o .count
+  pub program-queued : {q : Queue} {ws : List ℕ} → Begun c es (Program o 0) → Holds q ws → length ws ≤ 16 → k + length ws ≤ o .count
       → Queued c (Program o 0) k (withPrograms (c .queues) q)
   program-queued {q = q} b s n h =
       record {
@@ -61,7 +61,7 @@ module _ {c : Controller} {o : Operation} {k : ℕ} where
       }
 
   -- an erase leaves both as they were.
-  pub erase-queued : Begun c (Erase o 0) → k ≤ totalWords (c .pages) o → Queued c (Erase o 0) k (c .queues)
+  pub erase-queued : Begun c es (Erase o 0) → k ≤ totalWords (c .setup .pages) o → Queued c (Erase o 0) k (c .queues)
   erase-queued b h = record {
     upto = h;
     reads = omega (arith, holds-none (c .queues .reads) (b .free .reads) .size);
@@ -78,47 +78,47 @@ movedTo c m bits f = record { result = record { controller = c; answer = Accepte
 -- One that stored a word at the place of word k.
 abbrev pub storedTo : Controller → Controller → Operation → ℕ → ℕ → Flash → Leaves Stepped
 storedTo c x o k new g =
-    movedTo x (movement (totalWords (c .pages) o) k)
-    (countedBits c (placeOf (c .pages) o k) (stored g (placeOf (c .pages) o k)) new)
-    (withWord g (placeOf (c .pages) o k) new)
+    movedTo x (movement (totalWords (c .setup .pages) o) k)
+    (countedBits (c .setup) (placeOf (c .setup .pages) o k) (stored g (placeOf (c .setup .pages) o k)) new)
+    (withWord g (placeOf (c .setup .pages) o k) new)
 
-module _ {c : Controller} {o : Operation} {k : ℕ} {q : Queues} (g : Flash) (l : length (g .words) ≡ imageWords (c .pages))
-    (more : k < totalWords (c .pages) o) where
+module _ {c : Controller} {es : Errors} {o : Operation} {k : ℕ} {q : Queues} (g : Flash) (l : length (g .words) ≡ imageWords (c .setup .pages))
+    (more : k < totalWords (c .setup .pages) o) where
   -- A read's step puts the next word into the read queue;
-  pub read-moves : {r : ℕ} → Begun c (Read o 0 r) → Queued c (Read o 0 r) k q → isFull (q .reads) ≡ false
-      → step (stateAt c (Read o 0 r) k q) g
-      ≡ movedTo (stateAt c (Read o 0 r) (k + 1) (withReads q (pushed (q .reads) (readWord g (c .pages) o r k))))
-      (movement (totalWords (c .pages) o) k) 0 g
+  pub read-moves : {r : ℕ} → Begun c es (Read o 0 r) → Queued c (Read o 0 r) k q → isFull (q .reads) ≡ false
+      → step (stateAt c es (Read o 0 r) k q) g
+      ≡ movedTo (stateAt c es (Read o 0 r) (k + 1) (withReads q (pushed (q .reads) (readWord g (c .setup .pages) o r k))))
+      (movement (totalWords (c .setup .pages) o) k) 0 g
   unfolding stateAt stalls advance
   read-moves b h s = steps-move b h g l more s
 
   -- a program's combines the oldest queued word with the stored one;
-  pub program-moves : Begun c (Program o 0) → Queued c (Program o 0) k q → isEmpty (q .programs) ≡ false
-      → step (stateAt c (Program o 0) k q) g
-      ≡ storedTo c (stateAt c (Program o 0) (k + 1) (withPrograms q (popped (q .programs)))) o k
-      (programmed (stored g (placeOf (c .pages) o k)) (oldest (q .programs))) g
+  pub program-moves : Begun c es (Program o 0) → Queued c (Program o 0) k q → isEmpty (q .programs) ≡ false
+      → step (stateAt c es (Program o 0) k q) g
+      ≡ storedTo c (stateAt c es (Program o 0) (k + 1) (withPrograms q (popped (q .programs)))) o k
+      (programmed (stored g (placeOf (c .setup .pages) o k)) (oldest (q .programs))) g
   unfolding stateAt stalls advance
-  program-moves b h s = steps-move b h g l more s ∙ rw (same-counted c)
+  program-moves b h s = steps-move b h g l more s
 
   -- an erase's leaves ones.
-  pub erase-moves : Begun c (Erase o 0) → Queued c (Erase o 0) k q
-      → step (stateAt c (Erase o 0) k q) g ≡ storedTo c (stateAt c (Erase o 0) (k + 1) q) o k allOnes g
+  pub erase-moves : Begun c es (Erase o 0) → Queued c (Erase o 0) k q
+      → step (stateAt c es (Erase o 0) k q) g ≡ storedTo c (stateAt c es (Erase o 0) (k + 1) q) o k allOnes g
   unfolding stateAt stalls advance
-  erase-moves b h = steps-move b h g l more refl ∙ rw (same-counted c)
+  erase-moves b h = steps-move b h g l more refl
 
 -- ---- the push of a program's word
 
-module _ {c : Controller} {o : Operation} (k : ℕ) {q : Queue} {ws : List ℕ} (b : Begun c (Program o 0)) (s : Holds q ws) where
+module _ {c : Controller} {es : Errors} {o : Operation} (k : ℕ) {q : Queue} {ws : List ℕ} (b : Begun c es (Program o 0)) (s : Holds q ws) where
   -- It is queued if there is room, and words are left to push.
   pub program-pushes : length ws < 16 → k + length ws < o .count → (v : ℕ)
-      → push (stateAt c (Program o 0) k (withPrograms (c .queues) q)) v
-      ≡ record { controller = stateAt c (Program o 0) k (withPrograms (c .queues) (queueOf (ws ++ (v ∷ [])))); answer = Accepted }
+      → push (stateAt c es (Program o 0) k (withPrograms (c .queues) q)) v
+      ≡ record { controller = stateAt c es (Program o 0) k (withPrograms (c .queues) (queueOf (ws ++ (v ∷ [])))); answer = Accepted }
   unfolding stateAt pushAnswer
   program-pushes n h v =
-      let more : k < totalWords (c .pages) o = omega (arith, program-words b) in
+      let more : k < totalWords (c .setup .pages) o = omega (arith, program-words b) in
       pushes b (program-queued b s (omega arith) (omega arith)) v
       (rw (
-        ne-eqb k (totalWords (c .pages) o) (λ e. omega arith),
+        ne-eqb k (totalWords (c .setup .pages) o) (λ e. omega arith),
         lt-leb (o .count) (k + q .len) (omega (arith, s .size)),
         lt-leb 16 (q .len) (omega (arith, s .size)),
       ))

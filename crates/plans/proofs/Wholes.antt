@@ -13,6 +13,7 @@ use Rattle.model.specs.Rights.{readableWords}
 use Rattle.model.specs.Refusals.{accepts}
 use Rattle.model.specs.Checks.{operationAnswer}
 use Rattle.model.specs.Steps.{starts, workOf, start}
+use Rattle.model.specs.Valid.{errorsFit}
 use Rattle.model.specs.Whole.{wholeAnswer, shortBuffer, completed, turns, drive, whole}
 use Rattle.model.specs.declared.Operation.{Operation}
 use Rattle.model.specs.declared.Work.{Work}
@@ -20,12 +21,13 @@ use Rattle.model.specs.declared.Work.the-variants.{Read, Program, Erase}
 use Rattle.model.specs.declared.Controller.{Controller}
 use Rattle.model.proofs.Places.{moving-words}
 use Rattle.model.proofs.Order.{pages-bound}
+use Rattle.model.proofs.Valid.{valid-parts}
 use Rattle.model.proofs.WorkParts.{operationOf, atWord}
-use Rattle.model.proofs.Starting.{starts-well, first-word, read-starts, program-starts, erase-starts}
+use Rattle.model.proofs.Starting.{recorded-fits, starts-well, first-word, read-starts, program-starts, erase-starts}
 use Rattle.model.proofs.Free.{whole-free, whole-length, free-start}
 use Rattle.plans.specs.Plan.{programming, erasing, readsDrained, programsDrained, leaving, withRecorded}
 use Rattle.plans.proofs.Holding.{drained-some}
-use Rattle.plans.proofs.Running.{wordsOf, stateAt, Begun, at-start, at-end}
+use Rattle.plans.proofs.Running.{wordsOf, stateAt, recordedBy, Begun, at-start, at-end}
 use Rattle.plans.proofs.Firsts.{readFirst, storedFirst, changedFirst}
 use Rattle.plans.proofs.Turns.{runAt, reading, read-turns, programmingAt, program-turns, erasingAt, erase-turns}
 
@@ -33,85 +35,90 @@ module _ (c : Controller) (f : Flash) (o : Operation) (b : List ℕ) (free : acc
     (room : shortBuffer o b ≡ false) where
   -- ---- what starts, driven to its end
 
-  module _ (s : starts o (operationAnswer c o) ≡ true) where
+  module _ (s : starts o (operationAnswer (c .setup) o) ≡ true) where
     -- It has words.
-    pub some : 0 < totalWords (c .pages) o
+    pub some : 0 < totalWords (c .setup .pages) o
     some =
         let v = whole-free c f free in
         first-word c o (pages-bound c (v .fits) .0) (v .programs) s
 
     -- It starts with no word moved,
-    module _ (w : Work) (e : workOf c o ≡ w) (p : operationOf w ≡ o) (a : atWord w 0 ≡ w) where
-      pub begins : start c o ≡ record { controller = stateAt c w 0 (c .queues); answer = operationAnswer c o }
-      begins = let n : 0 < wordsOf c w = rw p some in at-start c o w (whole-free c f free) s e p a n
+    module _ (w : Work) (e : workOf (c .setup) o ≡ w) (p : operationOf w ≡ o) (a : atWord w 0 ≡ w) where
+      pub begins : start c o ≡ record { controller = stateAt c (recordedBy c o) w 0 (c .queues); answer = operationAnswer (c .setup) o }
+      begins = let n : 0 < wordsOf c w = rw p some in at-start c o w (whole-free c f free) s e a n
 
       -- and makes its turns.
-      driven : whole c f o b ≡ completed (operationAnswer c o) (turns o (totalWords (c .pages) o) (runAt (stateAt c w 0 (c .queues)) f b 0))
+      driven : whole c f o b ≡ completed (operationAnswer (c .setup) o) (turns o (totalWords (c .setup .pages) o) (runAt (stateAt c (recordedBy c o) w 0 (c .queues)) f b 0))
       unfolding whole drive
       driven = rw (free, room, begins, s)
 
-    -- Its work fits: a read's,
-    pub read-begun : isRead o ≡ true → Begun c (Read o 0 (readableWords c o))
+    -- What it records fits,
+    errors-fit : errorsFit (recordedBy c o) ≡ true
+    errors-fit =
+        recorded-fits (operationAnswer (c .setup) o) (o .address) (c .errors) (valid-parts c (whole-free c f free .fits) .errors)
+
+    -- and so does its work: a read's,
+    pub read-begun : isRead o ≡ true → Begun c (recordedBy c o) (Read o 0 (readableWords (c .setup) o))
     read-begun r =
         let v = whole-free c f free in
-        record { free = v; work = read-starts c o (pages-bound c (v .fits) .0) (v .programs) s r }
+        record { free = v; errors = errors-fit; work = read-starts c o (pages-bound c (v .fits) .0) (v .programs) s r }
 
     -- a program's,
-    pub program-begun : isRead o ≡ false → isProgram o ≡ true → Begun c (Program o 0)
+    pub program-begun : isRead o ≡ false → isProgram o ≡ true → Begun c (recordedBy c o) (Program o 0)
     program-begun r p =
         let v = whole-free c f free in
-        record { free = v; work = program-starts c o (pages-bound c (v .fits) .0) (v .programs) s r p }
+        record { free = v; errors = errors-fit; work = program-starts c o (pages-bound c (v .fits) .0) (v .programs) s r p }
 
     -- and an erase's.
-    pub erase-begun : isRead o ≡ false → isProgram o ≡ false → Begun c (Erase o 0)
+    pub erase-begun : isRead o ≡ false → isProgram o ≡ false → Begun c (recordedBy c o) (Erase o 0)
     erase-begun r p =
         let v = whole-free c f free in
-        record { free = v; work = erase-starts c o (pages-bound c (v .fits) .0) (v .programs) s r p }
+        record { free = v; errors = errors-fit; work = erase-starts c o (pages-bound c (v .fits) .0) (v .programs) s r p }
 
     -- The buffer of a read or a program is long enough.
-    pub long : o .kind < 2 → totalWords (c .pages) o ≤ length b
+    pub long : o .kind < 2 → totalWords (c .setup .pages) o ≤ length b
     long k =
-        rw (moving-words (c .pages) o k) (ltb-false (length b) (o .count) (rw (starts-well c o s, lt-ltb (o .kind) 2 k) at room))
+        rw (moving-words (c .setup .pages) o k) (ltb-false (length b) (o .count) (rw (starts-well (c .setup) o s, lt-ltb (o .kind) 2 k) at room))
 
     -- What a read leaves,
     pub whole-read : isRead o ≡ true
         → whole c f o b
-        ≡ leaving (readsDrained (withRecorded c (operationAnswer c o) o)) (operationAnswer c o) 0 f
-        (readFirst f (c .pages) o (readableWords c o) (totalWords (c .pages) o) ++ drop (totalWords (c .pages) o) b)
+        ≡ leaving (readsDrained (withRecorded c (operationAnswer (c .setup) o) o)) (operationAnswer (c .setup) o) 0 f
+        (readFirst f (c .setup .pages) o (readableWords (c .setup) o) (totalWords (c .setup .pages) o) ++ drop (totalWords (c .setup .pages) o) b)
     unfolding reading
     whole-read r =
         let n = long (omega (arith, eqb-true (o .kind) 0 r)) in
-        driven (Read o 0 (readableWords c o)) (rw r) refl refl
-        ∙ ap (completed (operationAnswer c o))
-        (read-turns c o f b (whole-length c f free) (readableWords c o) (read-begun r) r n (totalWords (c .pages) o) (omega arith))
-        ∙ rw (drained-some (totalWords (c .pages) o) (c .queues .reads) some, at-end c (Read o 0 (readableWords c o)) _ (whole-free c f free))
+        driven (Read o 0 (readableWords (c .setup) o)) (rw r) refl refl
+        ∙ ap (completed (operationAnswer (c .setup) o))
+        (read-turns c (recordedBy c o) o f b (whole-length c f free) (readableWords (c .setup) o) (read-begun r) r n (totalWords (c .setup .pages) o) (omega arith))
+        ∙ rw (drained-some (totalWords (c .setup .pages) o) (c .queues .reads) some, at-end c (recordedBy c o) (Read o 0 (readableWords (c .setup) o)) _ (whole-free c f free))
 
     -- a program,
     pub whole-program : isRead o ≡ false → isProgram o ≡ true
         → whole c f o b
-        ≡ leaving (programsDrained (withRecorded c (operationAnswer c o) o)) (operationAnswer c o)
-        (changedFirst c o (programming b) (totalWords (c .pages) o) f) (storedFirst (c .pages) o (programming b) (totalWords (c .pages) o) f) b
+        ≡ leaving (programsDrained (withRecorded c (operationAnswer (c .setup) o) o)) (operationAnswer (c .setup) o)
+        (changedFirst (c .setup) o (programming b) (totalWords (c .setup .pages) o) f) (storedFirst (c .setup .pages) o (programming b) (totalWords (c .setup .pages) o) f) b
     unfolding programmingAt
     whole-program r p =
         driven (Program o 0) (rw (r, p)) refl refl
-        ∙ ap (completed (operationAnswer c o))
-        (program-turns c o f b (whole-length c f free) (program-begun r p) r p (totalWords (c .pages) o) (omega arith))
-        ∙ rw (drained-some (totalWords (c .pages) o) (c .queues .programs) some, at-end c (Program o 0) _ (whole-free c f free))
+        ∙ ap (completed (operationAnswer (c .setup) o))
+        (program-turns c (recordedBy c o) o f b (whole-length c f free) (program-begun r p) r p (totalWords (c .setup .pages) o) (omega arith))
+        ∙ rw (drained-some (totalWords (c .setup .pages) o) (c .queues .programs) some, at-end c (recordedBy c o) (Program o 0) _ (whole-free c f free))
 
     -- and an erase.
     pub whole-erase : isRead o ≡ false → isProgram o ≡ false
         → whole c f o b
-        ≡ leaving (withRecorded c (operationAnswer c o) o) (operationAnswer c o)
-        (changedFirst c o erasing (totalWords (c .pages) o) f) (storedFirst (c .pages) o erasing (totalWords (c .pages) o) f) b
+        ≡ leaving (withRecorded c (operationAnswer (c .setup) o) o) (operationAnswer (c .setup) o)
+        (changedFirst (c .setup) o erasing (totalWords (c .setup .pages) o) f) (storedFirst (c .setup .pages) o erasing (totalWords (c .setup .pages) o) f) b
     unfolding erasingAt
     whole-erase r p =
         driven (Erase o 0) (rw (r, p)) refl refl
-        ∙ ap (completed (operationAnswer c o))
-        (erase-turns c o f b (whole-length c f free) (erase-begun r p) r p (totalWords (c .pages) o) (omega arith))
-        ∙ rw (at-end c (Erase o 0) (c .queues) (whole-free c f free))
+        ∙ ap (completed (operationAnswer (c .setup) o))
+        (erase-turns c (recordedBy c o) o f b (whole-length c f free) (erase-begun r p) r p (totalWords (c .setup .pages) o) (omega arith))
+        ∙ rw (at-end c (recordedBy c o) (Erase o 0) (c .queues) (whole-free c f free))
 
   -- What does not start is recorded, and moves no word.
-  pub whole-recorded : starts o (operationAnswer c o) ≡ false
-      → whole c f o b ≡ leaving (withRecorded c (operationAnswer c o) o) (operationAnswer c o) 0 f b
+  pub whole-recorded : starts o (operationAnswer (c .setup) o) ≡ false
+      → whole c f o b ≡ leaving (withRecorded c (operationAnswer (c .setup) o) o) (operationAnswer (c .setup) o) 0 f b
   unfolding whole drive
   whole-recorded s = rw (free, room, free-start c o (whole-free c f free), s)

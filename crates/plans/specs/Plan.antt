@@ -17,6 +17,7 @@ use Rattle.model.specs.Steps.{delivered, countedBits}
 use Rattle.model.specs.Whole.{WholeLeaves, wholeAnswer, shortBuffer, whole}
 use Rattle.model.specs.declared.BusWord.{BusWord}
 use Rattle.model.specs.declared.Operation.{Operation}
+use Rattle.model.specs.declared.Setup.{Setup}
 use Rattle.model.specs.declared.Controller.{Controller}
 use Rattle.model.specs.declared.Answer.{Answer}
 use Rattle.model.specs.declared.Answer.the-variants.{Accepted, ShortBuffer, Denied}
@@ -54,7 +55,7 @@ planAnswered d o a =
 unfoldable pub planOf : Controller → Flash → Operation → List ℕ → Plan
 planOf c f o b =
     cond (accepts (wholeAnswer c f))
-    (cond (shortBuffer o b) (Refused ShortBuffer) (planAnswered (c .pages) o (operationAnswer c o)))
+    (cond (shortBuffer o b) (Refused ShortBuffer) (planAnswered (c .setup .pages) o (operationAnswer (c .setup) o)))
     (Refused (wholeAnswer c f))
 
 -- ---- its performance
@@ -69,11 +70,11 @@ abbrev pub stored-all : (ℕ → ℕ → ℕ) → ℕ → List BusWord → Flash
 stored-all new k [] f = f
 stored-all new k (p ∷ ps) f = stored-all new (k + 1) ps (withWord f p (new k (stored f p)))
 
-abbrev pub changed-all : Controller → (ℕ → ℕ → ℕ) → ℕ → List BusWord → Flash → ℕ
-changed-all c new k [] f = 0
-changed-all c new k (p ∷ ps) f =
-    countedBits c p (stored f p) (new k (stored f p))
-    + changed-all c new (k + 1) ps (withWord f p (new k (stored f p)))
+abbrev pub changed-all : Setup → (ℕ → ℕ → ℕ) → ℕ → List BusWord → Flash → ℕ
+changed-all s new k [] f = 0
+changed-all s new k (p ∷ ps) f =
+    countedBits s p (stored f p) (new k (stored f p))
+    + changed-all s new (k + 1) ps (withWord f p (new k (stored f p)))
 
 -- A program combines word k of the buffer with the stored one; an erase leaves ones.
 abbrev pub programming : List ℕ → ℕ → ℕ → ℕ
@@ -101,9 +102,9 @@ performed c f o b (Recorded a) = leaving (withRecorded c a o) a 0 f b
 performed c f o b (Blank n) = leaving (readsDrained (withRecorded c Denied o)) Denied 0 f (replicate n allOnes ++ drop n b)
 performed c f o b (Reads ps) = leaving (readsDrained c) Accepted 0 f (deliveredAt f ps ++ drop (length ps) b)
 performed c f o b (Programs ps) =
-    leaving (programsDrained c) Accepted (changed-all c (programming b) 0 ps f) (stored-all (programming b) 0 ps f) b
+    leaving (programsDrained c) Accepted (changed-all (c .setup) (programming b) 0 ps f) (stored-all (programming b) 0 ps f) b
 performed c f o b (Erases ps) =
-    leaving c Accepted (changed-all c erasing 0 ps f) (stored-all erasing 0 ps f) b
+    leaving c Accepted (changed-all (c .setup) erasing 0 ps f) (stored-all erasing 0 ps f) b
 
 -- ---- the law: a whole operation, by its calls, leaves what its plan does
 

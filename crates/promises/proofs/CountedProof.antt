@@ -57,26 +57,26 @@ module _ (n k : ℕ) (some : k < n) where
 
 -- A step with so many words left moves one: it leaves one fewer, and its answer says so.
 record Moves (c : Controller) (f : Flash) (words : ℕ) (l : Leaves Stepped) : Type 0 where
-  pages : l .result .controller .pages ≡ c .pages
+  pages : l .result .controller .setup .pages ≡ c .setup .pages
   long : length (l .flash .words) ≡ length (f .words)
   left : wordsLeft (l .result .controller) + 1 ≡ words
   counts : countedBy words (l .result .movement) true ≡ true
   after : leftAfter words (l .result .movement) ≡ words - 1
 
 word-moves : (c : Controller) (f g : Flash) {n : ℕ} (k : ℕ) (q : Queues) (next : Work) (bits : ℕ) → k < n
-    → leftOf (c .pages) (Running next) ≡ n - (k + 1) → length (g .words) ≡ length (f .words)
+    → leftOf (c .setup .pages) (Running next) ≡ n - (k + 1) → length (g .words) ≡ length (f .words)
     → Moves c f (n - k) (record { result = moved c n k q next bits; flash = g })
 word-moves c f g {n} k q next bits some e long = record {
   pages = refl;
   long = long;
-  left = progressed-left n k some (c .pages) next e;
+  left = progressed-left n k some (c .setup .pages) next e;
   counts = movement-counts n k some;
   after = movement-left n k some;
 }
 
 -- Whatever it moves.
-advance-moves : (c : Controller) (f : Flash) (w : Work) → movedOf w < totalWords (c .pages) (operationOf w)
-    → Moves c f (leftOf (c .pages) (Running w)) (advance c f w)
+advance-moves : (c : Controller) (f : Flash) (w : Work) → movedOf w < totalWords (c .setup .pages) (operationOf w)
+    → Moves c f (leftOf (c .setup .pages) (Running w)) (advance c f w)
 unfolding advance
 advance-moves c f (Read o k readable) h = word-moves c f f k _ (Read o (k + 1) readable) 0 h refl refl
 advance-moves c f (Program o k) h = word-moves c f _ k _ (Program o (k + 1)) _ h refl (simp length-set)
@@ -84,7 +84,7 @@ advance-moves c f (Erase o k) h = word-moves c f _ k _ (Erase o (k + 1)) _ h ref
 
 -- So a step moves a word of the work in progress, if it does not wait.
 busy-moves : (c : Controller) (f : Flash) (w : Work) → validWith c f ≡ true → c .progress ≡ Running w
-    → Moves c f (leftOf (c .pages) (Running w)) (advance c f w)
+    → Moves c f (leftOf (c .setup .pages) (Running w)) (advance c f w)
 busy-moves c f w h e = advance-moves c f w (busy-parts c w (with-valid c f h) e .left)
 
 -- A step moves whenever it can, and waits otherwise.
@@ -93,7 +93,7 @@ unfolding perform stepProgress
 moves-or-waits s w shaped h e =
     let go = busy-steps (s .controller) (s .flash) w h e in
     let some = busy-moves (s .controller) (s .flash) w h e in
-    let words = ap (leftOf (s .controller .pages)) e in
+    let words = ap (leftOf (s .controller .setup .pages)) e in
     record {
       moves = λ t. rw (go, t) (ap numberOf (advance-accepts (s .controller) (s .flash) w), some .left ∙ sym words);
       waits = λ t. rw (go, t) (refl, refl, refl);
@@ -103,7 +103,7 @@ moves-or-waits s w shaped h e =
 
 -- A driving call keeps D and the image's length, and tells what is left.
 record Tells (s : State) (k : Call) : Type 0 where
-  pages : perform s k .state .controller .pages ≡ s .controller .pages
+  pages : perform s k .state .controller .setup .pages ≡ s .controller .setup .pages
   long : length (perform s k .state .flash .words) ≡ length (s .flash .words)
   counts : countedBy (wordsLeft (s .controller)) (perform s k .reply .movement) true ≡ true
   after : leftAfter (wordsLeft (s .controller)) (perform s k .reply .movement) ≡ wordsLeft (perform s k .state .controller)
@@ -148,7 +148,7 @@ unfolding perform stepProgress
 busy-tells s w e h =
     let go = busy-steps (s .controller) (s .flash) w h e in
     let some = busy-moves (s .controller) (s .flash) w h e in
-    let words = ap (leftOf (s .controller .pages)) e in
+    let words = ap (leftOf (s .controller .setup .pages)) e in
     by-test (stalls (s .controller .queues) w)
     (λ t. still-tells s Accepted Stalled (rw (go, t)) (λ n. (refl, refl)))
     (λ t. record {

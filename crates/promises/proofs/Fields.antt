@@ -39,8 +39,8 @@ pub record ValidQueue (q : Queue) : Type 0 where
 
 -- A state that is valid, its arrays as long as their types say. Closed: no word is queued unless it is ready.
 pub record Valid (c : Controller) : Type 0 where
-  pub pages : pagesFit (c .pages) ≡ true
-  pub settings : ValidSettings (c .pages) (c .settings)
+  pub pages : pagesFit (c .setup .pages) ≡ true
+  pub settings : ValidSettings (c .setup .pages) (c .setup .settings)
   pub errors : errorsFit (c .errors) ≡ true
   pub reads : ValidQueue (c .queues .reads)
   pub programs : ValidQueue (c .queues .programs)
@@ -54,16 +54,16 @@ module _ (c : Controller) where
   unfolding settingsFit
   parts s h =
       let v = valid-parts c h in
-      let lists = and-right (rightsFit (c .settings .«default_rights»)) _ (v .settings) in
+      let lists = and-right (rightsFit (c .setup .settings .«default_rights»)) _ (v .settings) in
       record {
         pages = v .pages;
         settings = record {
           region-places = s .regions;
           info-places = s .info;
           erase-places = s .erase;
-          rights = and-left (rightsFit (c .settings .«default_rights»)) _ (v .settings);
-          regions = and-left (all (regionFits (c .pages)) (c .settings .regions)) _ lists;
-          info = and-right (all (regionFits (c .pages)) (c .settings .regions)) _ lists;
+          rights = and-left (rightsFit (c .setup .settings .«default_rights»)) _ (v .settings);
+          regions = and-left (all (regionFits (c .setup .pages)) (c .setup .settings .regions)) _ lists;
+          info = and-right (all (regionFits (c .setup .pages)) (c .setup .settings .regions)) _ lists;
         };
         errors = v .errors;
         reads = record { places = s .reads; holds = v .reads };

@@ -7,7 +7,7 @@ use Rattle.model.specs.Geometry.{imagePage, wordAt}
 use Rattle.model.specs.Words.{allOnes, programmed}
 use Rattle.model.specs.Places.{totalWords, placeOf}
 use Rattle.model.specs.Queue.{held, queueOf, pushed, oldest, popped}
-use Rattle.model.specs.State.{freshController}
+use Rattle.model.specs.State.{flash, freshController}
 use Rattle.model.specs.Rights.{dataRights, rightsAt, leading, allowedWords, denied, readableWords}
 use Rattle.model.specs.Checks.{malformed, outOfRange, crossesWindow, operationAnswer}
 use Rattle.model.specs.Valid.{settingsFit, workFits, runningFits, valid, validWith}
@@ -27,7 +27,7 @@ use Rattle.promises.specs.Unknown.{stateOf}
 
 -- After reset; the image's first word is 0, the others are ones.
 abbrev fresh : State
-fresh = stateOf (freshController 10) (record { words = 0 ∷ replicate 11775 allOnes })
+fresh = stateOf (freshController 10) (flash (0 ∷ replicate 11775 allOnes))
 
 -- All rights on page 0 alone, and initialised;
 abbrev opening : List Call

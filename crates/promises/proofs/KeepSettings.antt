@@ -32,7 +32,7 @@ configured c i s = withSettings (withInputs c i) s
 
 module _ (c : Controller) (v : Valid c) where
   -- Inputs and settings that fit, checked by 1, 4 and 13, keep a valid state valid,
-  configured-keeps : (i : Inputs) (s : Settings) (fits : Bool) → (fits ≡ true → ValidSettings (c .pages) s)
+  configured-keeps : (i : Inputs) (s : Settings) (fits : Bool) → (fits ≡ true → ValidSettings (c .setup .pages) s)
       → Valid (settle c (configured c i s) (settingAnswer c fits) .controller)
   configured-keeps i s fits f = settle-keeps c (configured c i s) (settingAnswer c fits) v λ h.
       let (idle, e) = setting-passed c fits h in
@@ -50,26 +50,26 @@ module _ (c : Controller) (v : Valid c) where
   -- so inputs do,
   pub inputs-keep : (i : Inputs) → Valid (setInputs c i .controller)
   unfolding setInputs
-  inputs-keep i = configured-keeps i (c .settings) true (λ e. v .settings)
+  inputs-keep i = configured-keeps i (c .setup .settings) true (λ e. v .settings)
 
   -- a region,
   pub region-keeps : (i : ℕ) (g : Region) → Valid (setRegion c i g .controller)
   unfolding setRegion
   region-keeps i g =
-      configured-keeps (c .inputs) (withRegion (c .settings) i g) (ltb i 8 && regionFits (c .pages) g)
+      configured-keeps (c .setup .inputs) (withRegion (c .setup .settings) i g) (ltb i 8 && regionFits (c .setup .pages) g)
       λ e. record {
         region-places = rw length-set (v .settings .region-places);
         info-places = v .settings .info-places;
         erase-places = v .settings .erase-places;
         rights = v .settings .rights;
-        regions = all-set (regionFits (c .pages)) (c .settings .regions) i g (v .settings .regions) (and-right (ltb i 8) _ e);
+        regions = all-set (regionFits (c .setup .pages)) (c .setup .settings .regions) i g (v .settings .regions) (and-right (ltb i 8) _ e);
         info = v .settings .info;
       }
 
   -- the default rights,
   pub default-keeps : (r : ℕ) → Valid (setDefault c r .controller)
   unfolding setDefault
-  default-keeps r = configured-keeps (c .inputs) (withDefault (c .settings) r) (rightsFit r) λ e. record {
+  default-keeps r = configured-keeps (c .setup .inputs) (withDefault (c .setup .settings) r) (rightsFit r) λ e. record {
     region-places = v .settings .region-places;
     info-places = v .settings .info-places;
     erase-places = v .settings .erase-places;
@@ -82,21 +82,21 @@ module _ (c : Controller) (v : Valid c) where
   pub page-keeps : (bank t page : ℕ) (p : PageSetting) → Valid (setInfo c bank t page p .controller)
   unfolding setInfo
   page-keeps bank t page p =
-      configured-keeps (c .inputs) (withPage (c .settings) (infoIndex bank t page) p)
+      configured-keeps (c .setup .inputs) (withPage (c .setup .settings) (infoIndex bank t page) p)
       (infoExists bank t page && pageFits p) λ e. record {
         region-places = v .settings .region-places;
         info-places = rw length-set (v .settings .info-places);
         erase-places = v .settings .erase-places;
         rights = v .settings .rights;
         regions = v .settings .regions;
-        info = all-set pageFits (c .settings .info) (infoIndex bank t page) p (v .settings .info)
+        info = all-set pageFits (c .setup .settings .info) (infoIndex bank t page) p (v .settings .info)
             (and-right (infoExists bank t page) _ e);
       }
 
   -- and a bank's erase permission.
   pub erase-keeps : (bank : ℕ) (on : Bool) → Valid (setErase c bank on .controller)
   unfolding setErase
-  erase-keeps bank on = configured-keeps (c .inputs) (withErase (c .settings) bank on) (ltb bank 2) λ e. record {
+  erase-keeps bank on = configured-keeps (c .setup .inputs) (withErase (c .setup .settings) bank on) (ltb bank 2) λ e. record {
     region-places = v .settings .region-places;
     info-places = v .settings .info-places;
     erase-places = rw length-set (v .settings .erase-places);

@@ -20,24 +20,24 @@ use Rattle.promises.proofs.Fields.{Valid, together, ready-keeps, idle-e
 
 -- What is in progress after a start with nothing in progress fits.
 progress-after : (c : Controller) (o : Operation) → Valid c → isBusy (c .progress) ≡ false
-    → runningFits c (progressAfter c o (operationAnswer c o)) ≡ true
+    → runningFits c (progressAfter c o (operationAnswer (c .setup) o)) ≡ true
 unfolding runningFits
 progress-after c o v idle =
     let empty = idle-empty c (c .progress) idle (v .running) in
     let d = pages-bound c (together c v .1) .0 in
-    by-test (starts o (operationAnswer c o)) (λ s. rw s (work-starts c o d empty s)) (λ s. rw s (v .running))
+    by-test (starts o (operationAnswer (c .setup) o)) (λ s. rw s (work-starts c o d empty s)) (λ s. rw s (v .running))
 
 -- So a start keeps a valid state valid.
 pub start-keeps : (c : Controller) (o : Operation) → Valid c → Valid (start c o .controller)
 unfolding start startAnswer
 start-keeps c o v = by-test (accepts (startAnswer c)) (λ a. rw a (begun a)) (λ a. rw a v)
   where
-    begun : accepts (startAnswer c) ≡ true → Valid (started c o (operationAnswer c o) .controller)
+    begun : accepts (startAnswer c) ≡ true → Valid (started c o (operationAnswer (c .setup) o) .controller)
     begun a =
         let (r, b) = both-accept (readyAnswer (valid c) (c .phase)) _ a in
-        let e = recorded (operationAnswer c o) (o .address) (c .errors) in
-        let p : Progress = progressAfter c o (operationAnswer c o) in
+        let e = recorded (operationAnswer (c .setup) o) (o .address) (c .errors) in
+        let p : Progress = progressAfter c o (operationAnswer (c .setup) o) in
         ready-keeps c (c .phase) e (c .queues) p v (ready-passed (valid c) (c .phase) r)
-        (recorded-fits (operationAnswer c o) (o .address) (c .errors) (v .errors)) (v .reads) (v .programs)
+        (recorded-fits (operationAnswer (c .setup) o) (o .address) (c .errors) (v .errors)) (v .reads) (v .programs)
         (same-running c (c .phase) e (c .queues) p p refl
         (progress-after c o v (check-passed (isBusy (c .progress)) Busy refl b)))

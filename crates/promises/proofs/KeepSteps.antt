@@ -37,11 +37,11 @@ progressed-fits c n k next h last more =
 module _ (c : Controller) (v : Valid c) (ready : isReady (c .phase) ≡ true) (f : Flash) where
   -- A word that moves leaves a valid state, if the queues after it fit and no word is queued after the last,
   moves-keep : (w : Work) (q : Queues) → workFits c w ≡ true → ValidQueue (q .reads) → ValidQueue (q .programs)
-      → (movedOf w + 1 ≡ totalWords (c .pages) (operationOf w) → isEmpty (q .programs) ≡ true)
+      → (movedOf w + 1 ≡ totalWords (c .setup .pages) (operationOf w) → isEmpty (q .programs) ≡ true)
       → queuedFits (q .programs) (atWord w (movedOf w + 1)) ≡ true
-      → Valid (moved c (totalWords (c .pages) (operationOf w)) (movedOf w) q (atWord w (movedOf w + 1)) 0 .controller)
+      → Valid (moved c (totalWords (c .setup .pages) (operationOf w)) (movedOf w) q (atWord w (movedOf w + 1)) 0 .controller)
   moves-keep w q h qr qp last s =
-      let n = totalWords (c .pages) (operationOf w) in
+      let n = totalWords (c .setup .pages) (operationOf w) in
       let p : Progress = progressed n (movedOf w) (atWord w (movedOf w + 1)) in
       ready-keeps c (c .phase) (c .errors) q p v ready (v .errors) qr qp
       (progressed-fits (changed c (c .phase) (c .errors) q p) n (movedOf w) (atWord w (movedOf w + 1))
@@ -58,7 +58,7 @@ module _ (c : Controller) (v : Valid c) (ready : isReady (c .phase) ≡ true) (f
       (v .programs) (λ e. w .queued) (w .queued)
   advance-keeps (Program o k) s h =
       let w = work-parts c (Program o k) h in
-      let words = moving-words (c .pages) o (omega (arith, eqb-true (o .kind) 1 (w .kind))) in
+      let words = moving-words (c .setup .pages) o (omega (arith, eqb-true (o .kind) 1 (w .kind))) in
       let queued = leb-true (k + c .queues .programs .len) (o .count) (w .queued) in
       let some = eqb-false (c .queues .programs .len) 0 s in
       let taken = pop-takes-one (c .queues .programs) (v .programs .holds) (v .programs .places) in

@@ -41,6 +41,6 @@ whole-keeps c f o b v =
     by-test (shortBuffer o b) (λ e. rw e v)
     (λ e. rw e (
     by-test (starts o (start c o .answer))
-    (λ s. rw s (turns-keep o (totalWords (c .pages) o) _ (start-keeps c o v)))
+    (λ s. rw s (turns-keep o (totalWords (c .setup .pages) o) _ (start-keeps c o v)))
     (λ s. rw s (start-keeps c o v))))))
     (λ a. rw a v)

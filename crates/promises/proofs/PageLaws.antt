@@ -14,7 +14,7 @@ use Rattle.model.specs.Rights.{grants, dataRights, infoRights, denied, rightsAt
 use Rattle.model.specs.Checks.{outOfRange}
 use Rattle.model.specs.declared.Page.{Page}
 use Rattle.model.specs.declared.Operation.{Operation}
-use Rattle.model.specs.declared.Controller.{Controller}
+use Rattle.model.specs.declared.Setup.{Setup}
 use Rattle.model.proofs.Bool.{by-test}
 use Rattle.model.proofs.Geometry.{in-bank, area-end, quotient, remainder}
 use Rattle.model.proofs.Places.{bank-erase-places, bank-words-most, place-page, span-data, span-info}
@@ -29,31 +29,31 @@ in-bank-page : (d bank x : ℕ) → x < bankPages d
 in-bank-page d bank x h = (quotient (bankPages d) bank x h, remainder (bankPages d) bank x h)
 
 -- A data page,
-data-page-rights : (c : Controller) (t : ℕ) (p : Page) → p .0 < 2 * c .pages
-    → rightsOfPage c (imagePage (c .pages) false t p) ≡ rightsAt c false t p
+data-page-rights : (s : Setup) (t : ℕ) (p : Page) → p .0 < 2 * s .pages
+    → rightsOfPage s (imagePage (s .pages) false t p) ≡ rightsAt s false t p
 unfolding imagePage rightsAt rightsOfPage
-data-page-rights c t p h =
-    let x : ℕ = pageInBank (c .pages) p in
-    let small : x < c .pages = ⊎-elim (λ i. omega arith) (λ i. omega arith) (in-bank (c .pages) p) in
-    let at = in-bank-page (c .pages) (bankOf (c .pages) p) x (omega arith) in
-    let e : bankOf (c .pages) p * c .pages + x ≡ p .0 =
-    ⊎-elim (λ i. rw (i .1, i .2) (omega arith)) (λ i. rw (i .1, i .2) (omega arith)) (in-bank (c .pages) p) in
-    rw (at .0, at .1, lt-ltb x (c .pages) small)
-    (ap (λ (n : ℕ). dataRights (c .settings .regions) (c .settings .«default_rights») (record { 0 = n })) e)
+data-page-rights s t p h =
+    let x : ℕ = pageInBank (s .pages) p in
+    let small : x < s .pages = ⊎-elim (λ i. omega arith) (λ i. omega arith) (in-bank (s .pages) p) in
+    let at = in-bank-page (s .pages) (bankOf (s .pages) p) x (omega arith) in
+    let e : bankOf (s .pages) p * s .pages + x ≡ p .0 =
+    ⊎-elim (λ i. rw (i .1, i .2) (omega arith)) (λ i. rw (i .1, i .2) (omega arith)) (in-bank (s .pages) p) in
+    rw (at .0, at .1, lt-ltb x (s .pages) small)
+    (ap (λ (n : ℕ). dataRights (s .settings .regions) (s .settings .«default_rights») (record { 0 = n })) e)
 
 -- and an information page.
-info-page-rights : (c : Controller) (t : ℕ) (p : Page) → pageInBank (c .pages) p < infoCount t
-    → rightsOfPage c (imagePage (c .pages) true t p) ≡ rightsAt c true t p
+info-page-rights : (s : Setup) (t : ℕ) (p : Page) → pageInBank (s .pages) p < infoCount t
+    → rightsOfPage s (imagePage (s .pages) true t p) ≡ rightsAt s true t p
 unfolding imagePage rightsAt rightsOfPage
-info-page-rights c t p h =
-    let d : ℕ = c .pages in
+info-page-rights s t p h =
+    let d : ℕ = s .pages in
     let bank : ℕ = bankOf d p in
     let y : ℕ = infoFirst t + pageInBank d p in
     let e : bank * bankPages d + d + y ≡ bank * bankPages d + (d + y) = omega arith in
     let at = in-bank-page d bank (d + y) (omega (arith, area-end d (suc t) (pageInBank d p) h)) in
     let back : d + y - d ≡ y = omega arith in
     rw (e, at .0, at .1, le-ltb (d + y) d (omega arith))
-    (ap (λ (n : ℕ). infoRights (c .inputs) (c .settings) (bank * 13 + n)) back)
+    (ap (λ (n : ℕ). infoRights (s .inputs) (s .settings) (bank * 13 + n)) back)
 
 -- The pages of a bank erase's places lie in its bank.
 bank-of-place : (d : ℕ) (o : Operation) (k : ℕ) → isBankErase o ≡ true → k < totalWords d o
@@ -69,21 +69,21 @@ bank-of-place d o k b h =
 
 -- ---- the places of an operation that is not denied
 
-module _ (c : Controller) (o : Operation) (k : ℕ) (passed : denied c o ≡ false) where
+module _ (s : Setup) (o : Operation) (k : ℕ) (passed : denied s o ≡ false) where
   -- The image page of each place of a span grants the right,
-  pub place-granted : isBankErase o ≡ false → 10 ≤ c .pages → outOfRange (c .pages) o ≡ false → k < totalWords (c .pages) o
-      → grants (rightsOfPage c (imagePageOf (placeOf (c .pages) o k))) (rightNeeded o) ≡ true
+  pub place-granted : isBankErase o ≡ false → 10 ≤ s .pages → outOfRange (s .pages) o ≡ false → k < totalWords (s .pages) o
+      → grants (rightsOfPage s (imagePageOf (placeOf (s .pages) o k))) (rightNeeded o) ≡ true
   unfolding totalWords
   place-granted b fit ranged h =
       let l : k < spanWords o = rw b at h in
       let p : Page = pageOf (spanAddress o k) in
-      let same : rightsOfPage c (imagePage (c .pages) (isInformation o) (o .info) p) ≡ rightsAt c (isInformation o) (o .info) p =
+      let same : rightsOfPage s (imagePage (s .pages) (isInformation o) (o .info) p) ≡ rightsAt s (isInformation o) (o .info) p =
       by-test (isInformation o)
-      (λ i. rw i (info-page-rights c (o .info) p (span-info (c .pages) o fit ranged k b i l .1)))
-      (λ i. rw i (data-page-rights c (o .info) p (span-data (c .pages) o fit ranged k b i l))) in
-      rw (place-page (c .pages) o k b, same) (span-granted c o k b passed l)
+      (λ i. rw i (info-page-rights s (o .info) p (span-info (s .pages) o fit ranged k b i l .1)))
+      (λ i. rw i (data-page-rights s (o .info) p (span-data (s .pages) o fit ranged k b i l))) in
+      rw (place-page (s .pages) o k b, same) (span-granted s o k b passed l)
 
   -- and the bank of each place of a bank erase its permission.
-  pub place-permitted : isBankErase o ≡ true → k < totalWords (c .pages) o
-      → getD (c .settings .erase) (bankOfPage (c .pages) (imagePageOf (placeOf (c .pages) o k))) false ≡ true
-  place-permitted b h = rw (bank-of-place (c .pages) o k b h) (bank-granted c o b passed)
+  pub place-permitted : isBankErase o ≡ true → k < totalWords (s .pages) o
+      → getD (s .settings .erase) (bankOfPage (s .pages) (imagePageOf (placeOf (s .pages) o k))) false ≡ true
+  place-permitted b h = rw (bank-of-place (s .pages) o k b h) (bank-granted s o b passed)

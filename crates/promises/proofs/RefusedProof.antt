@@ -23,17 +23,17 @@ use Rattle.promises.specs.Refused.{leftBy, RefusedMovesNothing}
 use Rattle.promises.proofs.RefusedWholes.{whole-left}
 
 -- A start refused with 5, 7, 8 or 9 starts nothing but a denied read, blank;
-progress-left : (c : Controller) (o : Operation) → accepts (operationAnswer c o) ≡ false
-    → progressAfter c o (operationAnswer c o)
-    ≡ cond (isRead o && isDenied (operationAnswer c o)) (Running (Read o 0 0)) (c .progress)
+progress-left : (c : Controller) (o : Operation) → accepts (operationAnswer (c .setup) o) ≡ false
+    → progressAfter c o (operationAnswer (c .setup) o)
+    ≡ cond (isRead o && isDenied (operationAnswer (c .setup) o)) (Running (Read o 0 0)) (c .progress)
 progress-left c o n =
-    by-test (isRead o && isDenied (operationAnswer c o)) (λ b. rw (n, b, blank-work c o b)) (λ b. rw (n, b))
+    by-test (isRead o && isDenied (operationAnswer (c .setup) o)) (λ b. rw (n, b, blank-work (c .setup) o b)) (λ b. rw (n, b))
 
 -- it is recorded,
-started-left : (c : Controller) (o : Operation) → accepts (operationAnswer c o) ≡ false
-    → started c o (operationAnswer c o) .controller ≡ leftBy c (Start o) (numberOf (operationAnswer c o))
+started-left : (c : Controller) (o : Operation) → accepts (operationAnswer (c .setup) o) ≡ false
+    → started c o (operationAnswer (c .setup) o) .controller ≡ leftBy c (Start o) (numberOf (operationAnswer (c .setup) o))
 unfolding recorded
-started-left c o n = rw (recorded-if-refused c o n, progress-left c o n)
+started-left c o n = rw (recorded-if-refused (c .setup) o n, progress-left c o n)
 
 -- and one refused with 1 to 4 leaves the controller as it was.
 stopped-left : (c : Controller) (o : Operation) → c ≡ leftBy c (Start o) (numberOf (startAnswer c))
@@ -45,7 +45,7 @@ start-left : (c : Controller) (o : Operation) → (numberOf (start c o .answer) 
     → start c o .controller ≡ leftBy c (Start o) (numberOf (start c o .answer))
 start-left c o h =
     by-test (accepts (startAnswer c))
-    (λ e. let go = start-goes-on c o e in rw go (started-left c o (accepts-not (operationAnswer c o) (rw go at h))))
+    (λ e. let go = start-goes-on c o e in rw go (started-left c o (accepts-not (operationAnswer (c .setup) o) (rw go at h))))
     (λ e. rw (start-stops c o e) (stopped-left c o))
 
 -- Every refused call leaves what the table says.

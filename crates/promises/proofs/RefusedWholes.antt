@@ -48,19 +48,19 @@ module _ (c : Controller) (f : Flash) (o : Operation) (b : List ℕ) where
   blank-left r h = rw r
 
   -- and what starts is not refused.
-  started-left : LeavesRefused (planStarted (c .pages) o)
+  started-left : LeavesRefused (planStarted (c .setup .pages) o)
   unfolding LeavesRefused performed
   started-left =
       by-test (isRead o) (λ r. rw r (λ h. absurd (h refl)))
       (λ r. rw r (by-test (isProgram o) (λ p. rw p (λ h. absurd (h refl))) (λ p. rw p (λ h. absurd (h refl)))))
 
-  answered-left : LeavesRefused (planAnswered (c .pages) o (operationAnswer c o))
+  answered-left : LeavesRefused (planAnswered (c .setup .pages) o (operationAnswer (c .setup) o))
   answered-left =
-      by-test (accepts (operationAnswer c o)) (λ a. rw a started-left)
+      by-test (accepts (operationAnswer (c .setup) o)) (λ a. rw a started-left)
       (λ a. rw a (
-      by-test (isRead o && isDenied (operationAnswer c o))
+      by-test (isRead o && isDenied (operationAnswer (c .setup) o))
       (λ d. rw d (blank-left (and-left _ _ d)))
-      (λ d. rw d (recorded-left (operationAnswer c o) (recorded-if-refused c o a) d))))
+      (λ d. rw d (recorded-left (operationAnswer (c .setup) o) (recorded-if-refused (c .setup) o a) d))))
 
   plan-left : LeavesRefused (planOf c f o b)
   unfolding planOf wholeAnswer

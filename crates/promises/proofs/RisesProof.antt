@@ -54,15 +54,15 @@ program-keeps l p new place bit h =
 
 -- A step raises a bit only where it erases,
 step-rises : (c : Controller) (f : Flash) (place bit : ℕ) → StepLeaves c f → bitOf f place bit ≡ 0
-    → bitOf (step c f .flash) place bit ≡ 1 → stepErases (c .pages) (c .progress) place ≡ true
+    → bitOf (step c f .flash) place bit ≡ 1 → stepErases (c .setup .pages) (c .progress) place ≡ true
 step-rises c f place bit (same e) h i = absurd (never h (rw e at i))
 step-rises c f place bit (programs o k r e) h i =
-    absurd (never (program-keeps (f .words) (placeOf (c .pages) o k .0) _ place bit h) (rw e at i))
+    absurd (never (program-keeps (f .words) (placeOf (c .setup .pages) o k .0) _ place bit h) (rw e at i))
 step-rises c f place bit (erases o k r e) h i =
-    let covers : eqb (placeOf (c .pages) o k .0) place ≡ true =
-    by-test (eqb (placeOf (c .pages) o k .0) place) (λ t. t)
+    let covers : eqb (placeOf (c .setup .pages) o k .0) place ≡ true =
+    by-test (eqb (placeOf (c .setup .pages) o k .0) place) (λ t. t)
     (λ t.
-    let ne : place ≡ placeOf (c .pages) o k .0 → ⊥ = λ x. eqb-false _ _ t (sym x) in
+    let ne : place ≡ placeOf (c .setup .pages) o k .0 → ⊥ = λ x. eqb-false _ _ t (sym x) in
     absurd (never h (rw (e, getD-set-other) at i))) in
     rw r covers
 
@@ -87,22 +87,22 @@ erases-rise d o f place bit (suc n) h i =
 
 -- so it raises one only where it erases,
 whole-rises : (c : Controller) (f : Flash) (o : Operation) (b : List ℕ) (place bit : ℕ) → WholeChanges c f o b
-    → bitOf f place bit ≡ 0 → bitOf (whole c f o b .flash) place bit ≡ 1 → wholeErases (c .pages) o place ≡ true
+    → bitOf f place bit ≡ 0 → bitOf (whole c f o b .flash) place bit ≡ 1 → wholeErases (c .setup .pages) o place ≡ true
 whole-rises c f o b place bit (same e) h i = absurd (never h (rw e at i))
 whole-rises c f o b place bit (programs a p e) h i =
-    absurd (never (programs-keep (c .pages) o b f place bit (totalWords (c .pages) o) h) (rw e at i))
+    absurd (never (programs-keep (c .setup .pages) o b f place bit (totalWords (c .setup .pages) o) h) (rw e at i))
 whole-rises c f o b place bit (erases a p e) h i =
-    rw p (erases-rise (c .pages) o f place bit (totalWords (c .pages) o) h (rw e at i))
+    rw p (erases-rise (c .setup .pages) o f place bit (totalWords (c .setup .pages) o) h (rw e at i))
 
 -- and RMA only where it wipes.
 rma-rises : (c : Controller) (f : Flash) (place bit : ℕ) → bitOf f place bit ≡ 0 → bitOf (rma c f .flash) place bit ≡ 1
-    → isWiped (c .pages) (record { 0 = place }) ≡ true
+    → isWiped (c .setup .pages) (record { 0 = place }) ≡ true
 unfolding rma
 rma-rises c f place bit h i =
-    by-test (isWiped (c .pages) (record { 0 = place })) (λ t. t)
+    by-test (isWiped (c .setup .pages) (record { 0 = place })) (λ t. t)
     (λ t.
     by-test (accepts (rmaAnswer c f))
-    (λ a. absurd (never h (rw (a, wiped-other (c .pages) 0 (f .words) place (rw (zero-add place) t)) at i)))
+    (λ a. absurd (never h (rw (a, wiped-other (c .setup .pages) 0 (f .words) place (rw (zero-add place) t)) at i)))
     (λ a. absurd (never h (rw a at i))))
 
 -- No other call changes the flash.

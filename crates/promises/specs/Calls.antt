@@ -162,8 +162,8 @@ replies s (k ∷ ks) = perform s k .reply ∷ replies (perform s k .state) ks
 
 -- A controller's arrays are as long as their types say: every controller that a program can hold is so.
 pub record Shaped (c : Controller) : Type 0 where
-  pub regions : length (c .settings .regions) ≡ 8
-  pub info : length (c .settings .info) ≡ 26
-  pub erase : length (c .settings .erase) ≡ 2
+  pub regions : length (c .setup .settings .regions) ≡ 8
+  pub info : length (c .setup .settings .info) ≡ 26
+  pub erase : length (c .setup .settings .erase) ≡ 2
   pub reads : length (c .queues .reads .words) ≡ 16
   pub programs : length (c .queues .programs .words) ≡ 16

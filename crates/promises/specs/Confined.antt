@@ -19,6 +19,7 @@ use Rattle.model.specs.declared.Operation.{Operation}
 use Rattle.model.specs.declared.Work.the-variants.{Read, Program, Erase}
 use Rattle.model.specs.declared.Progress.{Progress}
 use Rattle.model.specs.declared.Progress.the-variants.{Idle, Running}
+use Rattle.model.specs.declared.Setup.{Setup}
 use Rattle.model.specs.declared.Controller.{Controller}
 use Rattle.promises.specs.Calls.{Call, State, Shaped, Reset, SetInputs, SetRegion, SetDefault, SetInfo, SetErase, Initialise, Start, Step, Push, Pop, Whole, HostRead, ViewPage, Clear, Rma, perform, run}
 
@@ -33,19 +34,19 @@ numberInBank d q = q .0 % bankPages d
 
 -- A data page's rights are its region's or the default ones; an information page has none if it is switched off or closed
 -- by its seed rule.
-unfoldable pub rightsOfPage : Controller → ImagePage → ℕ
-rightsOfPage c q =
-    cond (isData (c .pages) q)
-    (dataRights (c .settings .regions) (c .settings .«default_rights»)
-    (record { 0 = bankOfPage (c .pages) q * c .pages + numberInBank (c .pages) q }))
-    (infoRights (c .inputs) (c .settings) (bankOfPage (c .pages) q * 13 + (numberInBank (c .pages) q - c .pages)))
+unfoldable pub rightsOfPage : Setup → ImagePage → ℕ
+rightsOfPage s q =
+    cond (isData (s .pages) q)
+    (dataRights (s .settings .regions) (s .settings .«default_rights»)
+    (record { 0 = bankOfPage (s .pages) q * s .pages + numberInBank (s .pages) q }))
+    (infoRights (s .inputs) (s .settings) (bankOfPage (s .pages) q * 13 + (numberInBank (s .pages) q - s .pages)))
 
 -- Neither the program nor the erase right, in a bank whose erase permission is off.
-unfoldable pub protected : Controller → ImagePage → Bool
-protected c q =
-    not (getD (c .settings .erase) (bankOfPage (c .pages) q) false)
-    && (not (grants (rightsOfPage c q) programRight)
-    && not (grants (rightsOfPage c q) eraseRight))
+unfoldable pub protected : Setup → ImagePage → Bool
+protected s q =
+    not (getD (s .settings .erase) (bankOfPage (s .pages) q) false)
+    && (not (grants (rightsOfPage s q) programRight)
+    && not (grants (rightsOfPage s q) eraseRight))
 
 -- ---- any list of calls but RMA that leaves those settings alone
 
@@ -70,7 +71,7 @@ isRma Rma = true
 -- The page is protected at every call of the list, and none of them is RMA.
 abbrev pub protectedAlong : ImagePage → State → List Call → Bool
 protectedAlong q s [] = true
-protectedAlong q s (k ∷ ks) = (protected (s .controller) q && not (isRma k)) && protectedAlong q (perform s k .state) ks
+protectedAlong q s (k ∷ ks) = (protected (s .controller .setup) q && not (isRma k)) && protectedAlong q (perform s k .state) ks
 
 abbrev pub Confined : Type 0
 Confined =
@@ -107,14 +108,14 @@ erasesPlace c (SetInfo bank t page p) place = false
 erasesPlace c (SetErase bank on) place = false
 erasesPlace c Initialise place = false
 erasesPlace c (Start o) place = false
-erasesPlace c Step place = stepErases (c .pages) (c .progress) place
+erasesPlace c Step place = stepErases (c .setup .pages) (c .progress) place
 erasesPlace c (Push w) place = false
 erasesPlace c Pop place = false
-erasesPlace c (Whole o b) place = wholeErases (c .pages) o place
+erasesPlace c (Whole o b) place = wholeErases (c .setup .pages) o place
 erasesPlace c (HostRead a) place = false
 erasesPlace c (ViewPage p) place = false
 erasesPlace c Clear place = false
-erasesPlace c Rma place = isWiped (c .pages) (record { 0 = place })
+erasesPlace c Rma place = isWiped (c .setup .pages) (record { 0 = place })
 
 abbrev pub RisesByErase : Type 0
 RisesByErase =

@@ -24,7 +24,7 @@ leftOf d (Running (Program o k)) = totalWords d o - k
 leftOf d (Running (Erase o k)) = totalWords d o - k
 
 abbrev pub wordsLeft : Controller → ℕ
-wordsLeft c = leftOf (c .pages) (c .progress)
+wordsLeft c = leftOf (c .setup .pages) (c .progress)
 
 -- Steps, pushes and pops, in any order.
 pub data Driving : List Call → Type 0 where

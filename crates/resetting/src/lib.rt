@@ -13,6 +13,7 @@ use model::Progress;
 use model::Queues;
 use model::Region;
 use model::Settings;
+use model::Setup;
 
 fn settings_off() -> Settings
     ensures { λ r. ⌜ r ≡ settingsOff ⌝ }
@@ -50,14 +51,17 @@ pub fn fresh(d: u32) -> Controller
     let settings = settings_off();
     let queues = empty_queues();
     let errors = state::no_errors();
+    let inputs = Inputs {
+        provision: false,
+        locked: false,
+    };
     Controller {
-        pages: d,
-        phase: Phase::Uninitialised,
-        inputs: Inputs {
-            provision: false,
-            locked: false,
+        setup: Setup {
+            pages: d,
+            inputs,
+            settings,
         },
-        settings,
+        phase: Phase::Uninitialised,
         errors,
         queues,
         progress: Progress::Idle,

@@ -4,12 +4,12 @@ ghost use Prim.Native.Nat.{_<_};
 ghost use lib.ListN.{getD};
 ghost use Rattle.model.specs.State.{pageOff};
 ghost use Rattle.model.specs.Rights.{grants, decides, dataRights, seedClosed, pageRights, infoRights, rightsAt};
-use model::Controller;
 use model::Inputs;
 use model::Page;
 use model::PageSetting;
 use model::Region;
 use model::Settings;
+use model::Setup;
 
 // Whether one right is among rights that are added up.
 pub fn grants(rights: u8, right: u8) -> bool
@@ -87,14 +87,14 @@ pub fn info_rights(i: Inputs, s: Settings, page: usize) -> u8
 }
 
 // The rights of a page of either partition.
-pub fn rights_at(c: Controller, information: bool, t: u8, p: Page) -> u8
-    ensures { λ r. ⌜ r ≡ rightsAt c information t p ⌝ }
+pub fn rights_at(s: Setup, information: bool, t: u8, p: Page) -> u8
+    ensures { λ r. ⌜ r ≡ rightsAt s information t p ⌝ }
 {
-    let settings = c.settings;
+    let settings = s.settings;
     if information {
-        let inputs = c.inputs;
-        let bank = geometry::bank_of(c.pages, p);
-        let page = geometry::page_in_bank(c.pages, p);
+        let inputs = s.inputs;
+        let bank = geometry::bank_of(s.pages, p);
+        let page = geometry::page_in_bank(s.pages, p);
         return info_rights(inputs, settings, geometry::info_index(bank, t, page));
     }
     let regions = settings.regions;

@@ -1,5 +1,6 @@
 // RMA: the image wiped, the queues emptied, and the controller disabled.
 ghost use mathlib.Core.Path.{_≡_};
+ghost use Rattle.model.specs.State.{flash};
 ghost use Rattle.model.specs.Lifecycle.{rmaAnswer, rmaController, rma};
 use model::Answer;
 use model::Controller;
@@ -8,7 +9,7 @@ use model::Phase;
 
 // Checks 1, 2 and 4.
 fn rma_answer(c: Controller, image: &[u32]) -> Answer
-    ensures { λ r. ⌜ r ≡ rmaAnswer c (record { words = now (image .entry) }) ⌝ }
+    ensures { λ r. ⌜ r ≡ rmaAnswer c (flash (now (image .entry))) ⌝ }
 {
     let phase = c.phase;
     let progress = c.progress;
@@ -29,11 +30,11 @@ fn rma_controller(c: Controller) -> Controller
 
 // Wipes the image where the checks pass.
 pub fn rma(c: Controller, image: &mut [u32]) -> Outcome
-    ensures { λ r. ⌜ record { result = r; flash = record { words = now (image .exit) } } ≡ rma c (record { words = now (image .entry) }) ⌝ }
+    ensures { λ r. ⌜ record { result = r; flash = flash (now (image .exit)) } ≡ rma c (flash (now (image .entry))) ⌝ }
 {
     let answer = rma_answer(c, image);
     if refusals::accepts(answer) {
-        wiping::wipe(image, c.pages);
+        wiping::wipe(image, c.setup.pages);
         let controller = rma_controller(c);
         return Outcome { controller, answer };
     }

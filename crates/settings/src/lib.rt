@@ -32,8 +32,9 @@ pub fn set_inputs(c: Controller, inputs: Inputs) -> Outcome
 pub fn set_region(c: Controller, number: u32, g: Region) -> Outcome
     ensures { λ r. ⌜ r ≡ setRegion c number g ⌝ }
 {
-    let settings = c.settings;
-    let fits = bounds::region_fits(c.pages, g);
+    let setup = c.setup;
+    let settings = setup.settings;
+    let fits = bounds::region_fits(setup.pages, g);
     let answer = setting_answer(c, (number < 8) & fits);
     let next = state::with_settings(c, tables::with_region(settings, number as usize, g));
     refusals::settle(c, next, answer)
@@ -43,7 +44,8 @@ pub fn set_region(c: Controller, number: u32, g: Region) -> Outcome
 pub fn set_default(c: Controller, rights: u8) -> Outcome
     ensures { λ r. ⌜ r ≡ setDefault c rights ⌝ }
 {
-    let settings = c.settings;
+    let setup = c.setup;
+    let settings = setup.settings;
     let answer = setting_answer(c, bounds::rights_fit(rights));
     let next = state::with_settings(c, tables::with_default(settings, rights));
     refusals::settle(c, next, answer)
@@ -53,7 +55,8 @@ pub fn set_default(c: Controller, rights: u8) -> Outcome
 pub fn set_info(c: Controller, bank: u32, t: u8, page: u32, p: PageSetting) -> Outcome
     ensures { λ r. ⌜ r ≡ setInfo c bank t page p ⌝ }
 {
-    let settings = c.settings;
+    let setup = c.setup;
+    let settings = setup.settings;
     let exists = tables::info_exists(bank, t, page);
     let fits = bounds::page_fits(p);
     let answer = setting_answer(c, exists & fits);
@@ -66,7 +69,8 @@ pub fn set_info(c: Controller, bank: u32, t: u8, page: u32, p: PageSetting) -> O
 pub fn set_erase(c: Controller, bank: u32, on: bool) -> Outcome
     ensures { λ r. ⌜ r ≡ setErase c bank on ⌝ }
 {
-    let settings = c.settings;
+    let setup = c.setup;
+    let settings = setup.settings;
     let answer = setting_answer(c, bank < 2);
     let next = state::with_settings(c, tables::with_erase(settings, bank as usize, on));
     refusals::settle(c, next, answer)

@@ -8,7 +8,7 @@ use mathlib.Core.List.{List, [], _∷_}
 use lib.ListN.{length, getD, set, drop, length-take, length-drop}
 use lib.Seq.{ext-getD, getD-take, getD-drop}
 use Rattle.model.specs.Geometry.{imagePageOf}
-use Rattle.model.specs.State.{Flash, stored}
+use Rattle.model.specs.State.{Flash, flash, stored}
 use Rattle.model.specs.declared.ImagePage.{ImagePage}
 use Rattle.model.specs.declared.BusWord.{BusWord}
 use Rattle.shuffles.specs.Shuffle.{wordsOf}
@@ -47,7 +47,7 @@ word-of-page f w =
 
 -- A flash, by its pages.
 pub pages-ext : (f g : Flash) → AsLong f g → ((q : ImagePage) → wordsOf f q ≡ wordsOf g q) → f ≡ g
-pages-ext f g e h = ap (λ (l : List ℕ). record { words = l }) (ext-getD 0 (f .words) (g .words) e same)
+pages-ext f g e h = ap flash (ext-getD 0 (f .words) (g .words) e same)
   where
     same : (i : ℕ) → i < length (f .words) → getD (f .words) i 0 ≡ getD (g .words) i 0
     same i b =

@@ -17,6 +17,7 @@ use Rattle.model.specs.Whole.{WholeLeaves}
 use Rattle.model.specs.declared.ImagePage.{ImagePage}
 use Rattle.model.specs.declared.BusWord.{BusWord}
 use Rattle.model.specs.declared.Operation.{Operation}
+use Rattle.model.specs.declared.Setup.{Setup}
 use Rattle.model.specs.declared.Controller.{Controller}
 use Rattle.model.proofs.Bool.{or-left, or-right}
 use Rattle.plans.specs.Plan.{Plan, Refused, Recorded, Blank, Reads, Programs, Erases, deliveredAt, stored-all, changed-all, programming, erasing, performed}
@@ -62,19 +63,19 @@ delivered-same P (p ∷ ps) f g h a =
     ap₂ {C = List ℕ} (λ x xs. x ∷ xs) (a p (among-head P p ps h)) (delivered-same P ps f g (among-tail P p ps h) a)
 
 -- and stored words change as many bits, and leave the same.
-stored-same : (P : ImagePage → Bool) (new : ℕ → ℕ → ℕ) (k : ℕ) (ps : List BusWord) (c d : Controller) (f g : Flash) → AsLong f g
+stored-same : (P : ImagePage → Bool) (new : ℕ → ℕ → ℕ) (k : ℕ) (ps : List BusWord) (s t : Setup) (f g : Flash) → AsLong f g
     → Among ps P → Agree P f g
-    → (changed-all c new k ps f ≡ changed-all d new k ps g) × Agree P (stored-all new k ps f) (stored-all new k ps g)
+    → (changed-all s new k ps f ≡ changed-all t new k ps g) × Agree P (stored-all new k ps f) (stored-all new k ps g)
 unfolding countedBits
-stored-same P new k [] c d f g e h a = (refl, a)
-stored-same P new k (p ∷ ps) c d f g e h a =
+stored-same P new k [] s t f g e h a = (refl, a)
+stored-same P new k (p ∷ ps) s t f g e h a =
     let old : stored f p ≡ stored g p = a p (among-head P p ps h) in
-    let t = stored-same P new (k + 1) ps c d (withWord f p (new k (stored f p))) (withWord g p (new k (stored g p)))
+    let rest = stored-same P new (k + 1) ps s t (withWord f p (new k (stored f p))) (withWord g p (new k (stored g p)))
     (length-set (f .words) (p .0) (new k (stored f p)) ∙ e ∙ sym (length-set (g .words) (p .0) (new k (stored g p))))
     (among-tail P p ps h)
     (λ w q. same-set (f .words) (g .words) (p .0) (new k (stored f p)) (w .0) e (a w q)
     ∙ ap (λ (x : ℕ). stored (withWord g p (new k x)) w) old) in
-    (ap₂ {C = ℕ} (λ x y. changedBits x (new k x) + y) old (t .0), t .1)
+    (ap₂ {C = ℕ} (λ x y. changedBits x (new k x) + y) old (rest .0), rest .1)
 
 -- ---- a plan, performed
 
@@ -120,8 +121,8 @@ plan-same c d f g o b (Reads ps) e h = (
   on-none f g,
 )
 plan-same c d f g o b (Programs ps) e h =
-    let t = stored-same (hasOne ps) (programming b) 0 ps c d f g e (λ q t. t) h in
+    let t = stored-same (hasOne ps) (programming b) 0 ps (c .setup) (d .setup) f g e (λ q t. t) h in
     (ap (λ (n : ℕ). record { answer = 0; words = b; bits = n }) (t .0), t .1)
 plan-same c d f g o b (Erases ps) e h =
-    let t = stored-same (hasOne ps) erasing 0 ps c d f g e (λ q t. t) h in
+    let t = stored-same (hasOne ps) erasing 0 ps (c .setup) (d .setup) f g e (λ q t. t) h in
     (ap (λ (n : ℕ). record { answer = 0; words = b; bits = n }) (t .0), t .1)

@@ -72,12 +72,12 @@ answered-started c f d o b a h =
 
 -- and so did checks 1 to 4 and 6.
 accepted-started : (c : Controller) (f : Flash) (o : Operation) (b : List ℕ)
-    → numberOf (performed c f o b (planOf c f o b) .result .answer) ≡ 0 → planOf c f o b ≡ planStarted (c .pages) o
+    → numberOf (performed c f o b (planOf c f o b) .result .answer) ≡ 0 → planOf c f o b ≡ planStarted (c .setup .pages) o
 unfolding planOf performed
 accepted-started c f o b h =
     by-test (accepts (wholeAnswer c f))
     (λ e. by-test (shortBuffer o b) (λ t. absurd (suc-ne-zero 5 (rw (e, t) at h)))
-    (λ t. rw (e, t) (answered-started c f (c .pages) o b (operationAnswer c o) (rw (e, t) at h))))
+    (λ t. rw (e, t) (answered-started c f (c .setup .pages) o b (operationAnswer (c .setup) o) (rw (e, t) at h))))
     (λ e. absurd (eqb-false _ _ e (rw e at h)))
 
 -- What an operation that starts reads and changes.
@@ -94,18 +94,18 @@ pub footprints : Footprints
 unfolding placesOf
 footprints s j q = record {
   refused = λ h. refused-none (s .controller) (s .flash) (j .operation) (j .buffer) (planAt s j) q (λ e. h (told ∙ e));
-  reads = λ h. rw (started h) (started-reads (s .controller .pages) (j .operation) q);
-  changes = λ h. rw (started h) (started-changes (s .controller .pages) (j .operation) q);
-  each = λ k l e. has-each (s .controller .pages) (j .operation) q 0 (totalWords (s .controller .pages) (j .operation)) k l (rw zero-add e);
+  reads = λ h. rw (started h) (started-reads (s .controller .setup .pages) (j .operation) q);
+  changes = λ h. rw (started h) (started-changes (s .controller .setup .pages) (j .operation) q);
+  each = λ k l e. has-each (s .controller .setup .pages) (j .operation) q 0 (totalWords (s .controller .setup .pages) (j .operation)) k l (rw zero-add e);
   only = λ h.
-      let (k, l, e) = has-only (s .controller .pages) (j .operation) q 0 (totalWords (s .controller .pages) (j .operation)) h in
+      let (k, l, e) = has-only (s .controller .setup .pages) (j .operation) q 0 (totalWords (s .controller .setup .pages) (j .operation)) h in
       (k, l, rw zero-add at e);
 }
   where
     told : given s j .answer ≡ numberOf (performed (s .controller) (s .flash) (j .operation) (j .buffer) (planAt s j) .result .answer)
     told = ap (λ (g : Given). g .answer) (given-is s j)
 
-    started : given s j .answer ≡ 0 → planAt s j ≡ planStarted (s .controller .pages) (j .operation)
+    started : given s j .answer ≡ 0 → planAt s j ≡ planStarted (s .controller .setup .pages) (j .operation)
     started h = accepted-started (s .controller) (s .flash) (j .operation) (j .buffer) (sym told ∙ h)
 
 -- ---- the places that plans touch and change

@@ -1,34 +1,29 @@
--- What of a state decides the plans: D, the inputs, the settings, and the answer of checks 1 to 4. A whole operation leaves all
--- of it as it was. Assumes nothing.
+-- What of a state decides the plans: the setup, and the answer of checks 1 to 4. A whole operation leaves both as they were.
+-- Assumes nothing.
 use Prim.Native.Nat.{ℕ}
-use mathlib.Core.Path.{_≡_, refl, sym, ap, _∙_}
-use mathlib.Core.Bool.{true, false, cond}
+use mathlib.Core.Path.{_≡_, refl, ap}
+use mathlib.Core.Bool.{true, false}
 use mathlib.Core.List.{List}
 use lib.Dec.{eqb}
 use Rattle.model.specs.Queue.{emptyQueue, queueOf, isEmpty}
-use Rattle.model.specs.Rights.{rightsAt, allowedWords, denied}
-use Rattle.model.specs.State.{Flash, withErrors, withQueues, withReads, withPrograms, noErrors, emptyQueues}
+use Rattle.model.specs.State.{Flash, withErrors, withQueues, withReads, withPrograms}
 use Rattle.model.specs.Refusals.{numberOf, accepts}
-use Rattle.model.specs.Checks.{operationAnswer}
 use Rattle.model.specs.Errors.{isRecorded, recorded}
 use Rattle.model.specs.Valid.{errorsFit, bothEmpty, validWith}
-use Rattle.model.specs.Whole.{WholeLeaves, wholeAnswer, shortBuffer}
+use Rattle.model.specs.Whole.{WholeLeaves, wholeAnswer}
 use Rattle.model.specs.declared.ByteAddress.{ByteAddress}
-use Rattle.model.specs.declared.Inputs.{Inputs}
-use Rattle.model.specs.declared.Settings.{Settings}
 use Rattle.model.specs.declared.Errors.{Errors}
 use Rattle.model.specs.declared.Queues.{Queues}
 use Rattle.model.specs.declared.Operation.{Operation}
+use Rattle.model.specs.declared.Setup.{Setup}
 use Rattle.model.specs.declared.Controller.{Controller}
-use Rattle.model.specs.declared.Phase.the-variants.{Ready}
-use Rattle.model.specs.declared.Progress.the-variants.{Idle}
 use Rattle.model.specs.declared.Answer.{Answer}
-use Rattle.model.specs.declared.Answer.the-variants.{ShortBuffer, Denied}
+use Rattle.model.specs.declared.Answer.the-variants.{Denied}
 use Rattle.model.proofs.Bool.{and-left, and-right, or-left, or-right, by-test}
 use Rattle.model.proofs.Valid.{valid-parts}
 use Rattle.model.proofs.Starting.{recorded-fits}
 use Rattle.model.proofs.Free.{whole-free, free-again}
-use Rattle.plans.specs.Plan.{Plan, Refused, Recorded, Blank, Reads, Programs, Erases, planAnswered, planOf, performed}
+use Rattle.plans.specs.Plan.{Plan, Refused, Recorded, Blank, Reads, Programs, Erases, planOf, performed}
 use Rattle.shuffles.specs.Shuffle.{Kinds, kindsIn, union}
 use Rattle.shuffles.proofs.Union.{noKinds, union-none}
 use Rattle.shuffles.proofs.Pages.{AsLong}
@@ -38,43 +33,18 @@ use Rattle.shuffles.proofs.Places.{plan-long}
 
 -- What decides it.
 pub record View : Type 0 where
-  pub pages : ℕ
-  pub inputs : Inputs
-  pub settings : Settings
+  pub setup : Setup
   pub answer : Answer
 
 -- Of a controller and a flash.
 unfoldable pub viewOf : Controller → Flash → View
-viewOf c f = record { pages = c .pages; inputs = c .inputs; settings = c .settings; answer = wholeAnswer c f }
-
--- A controller with this D, inputs and settings.
-abbrev shown : View → Controller
-shown v = record {
-  pages = v .pages;
-  phase = Ready;
-  inputs = v .inputs;
-  settings = v .settings;
-  errors = noErrors;
-  queues = emptyQueues;
-  progress = Idle;
-}
-
--- The plan by a view,
-unfoldable planBy : View → Operation → List ℕ → Plan
-planBy v o b =
-    cond (accepts (v .answer))
-    (cond (shortBuffer o b) (Refused ShortBuffer) (planAnswered (v .pages) o (operationAnswer (shown v) o)))
-    (Refused (v .answer))
-
--- which is the plan of whatever has this view.
-plan-by : (c : Controller) (f : Flash) (o : Operation) (b : List ℕ) → planOf c f o b ≡ planBy (viewOf c f) o b
-unfolding planOf planBy viewOf operationAnswer denied allowedWords rightsAt
-plan-by c f o b = refl
+viewOf c f = record { setup = c .setup; answer = wholeAnswer c f }
 
 -- States with one view have one plan.
 pub same-plan : (c d : Controller) (f g : Flash) (o : Operation) (b : List ℕ) → viewOf c f ≡ viewOf d g
     → planOf c f o b ≡ planOf d g o b
-same-plan c d f g o b e = plan-by c f o b ∙ ap (λ (v : View). planBy v o b) e ∙ sym (plan-by d g o b)
+unfolding planOf viewOf
+same-plan c d f g o b e = rw (ap (λ (v : View). v .answer) e, ap (λ (v : View). v .setup) e)
 
 -- Where checks 1 to 4 refuse, it is their refusal.
 pub refused-plan : (c : Controller) (f : Flash) (o : Operation) (b : List ℕ) → accepts (wholeAnswer c f) ≡ false
@@ -164,7 +134,7 @@ view-stays c f o b = by-test (accepts (wholeAnswer c f)) yes no
     yes : accepts (wholeAnswer c f) ≡ true → viewOf (leaves .result .controller) (leaves .flash) ≡ viewOf c f
     yes h =
         rw (plan-controller c f o b (planOf c f o b))
-        (ap (λ (a : Answer). record { pages = c .pages; inputs = c .inputs; settings = c .settings; answer = a })
+        (ap (λ (a : Answer). record { setup = c .setup; answer = a })
         (still-accepted c f (leaves .flash) (planOf c f o b) (o .address) (plan-long c f o b (planOf c f o b)) h))
 
     no : accepts (wholeAnswer c f) ≡ false → viewOf (leaves .result .controller) (leaves .flash) ≡ viewOf c f

@@ -104,16 +104,16 @@ pub record RightPages (s : State) (j : Job) (q : ImagePage) : Type 0 where
   pub refused : (given s j .answer ≡ 0 → ⊥) → touchesPage (planAt s j) q ≡ false
   -- a read that starts reads the pages with one of its words, and another operation programs or erases them;
   pub reads : given s j .answer ≡ 0
-      → readsPage (planAt s j) q ≡ (isRead (j .operation) && hasOne (placesOf (s .controller .pages) (j .operation)) q)
+      → readsPage (planAt s j) q ≡ (isRead (j .operation) && hasOne (placesOf (s .controller .setup .pages) (j .operation)) q)
   pub changes : given s j .answer ≡ 0
-      → changesPage (planAt s j) q ≡ (not (isRead (j .operation)) && hasOne (placesOf (s .controller .pages) (j .operation)) q)
+      → changesPage (planAt s j) q ≡ (not (isRead (j .operation)) && hasOne (placesOf (s .controller .setup .pages) (j .operation)) q)
   -- these are the pages of its words, and no others.
-  pub each : (k : ℕ) → k < totalWords (s .controller .pages) (j .operation)
-      → imagePageOf (placeOf (s .controller .pages) (j .operation) k) ≡ q
-      → hasOne (placesOf (s .controller .pages) (j .operation)) q ≡ true
-  pub only : hasOne (placesOf (s .controller .pages) (j .operation)) q ≡ true
-      → (k : ℕ) × (k < totalWords (s .controller .pages) (j .operation))
-      × (imagePageOf (placeOf (s .controller .pages) (j .operation) k) ≡ q)
+  pub each : (k : ℕ) → k < totalWords (s .controller .setup .pages) (j .operation)
+      → imagePageOf (placeOf (s .controller .setup .pages) (j .operation) k) ≡ q
+      → hasOne (placesOf (s .controller .setup .pages) (j .operation)) q ≡ true
+  pub only : hasOne (placesOf (s .controller .setup .pages) (j .operation)) q ≡ true
+      → (k : ℕ) × (k < totalWords (s .controller .setup .pages) (j .operation))
+      × (imagePageOf (placeOf (s .controller .setup .pages) (j .operation) k) ≡ q)
 
 abbrev pub Footprints : Type 0
 Footprints = (s : State) (j : Job) (q : ImagePage) → RightPages s j q

@@ -1,7 +1,7 @@
 // The parts of a state that calls change, and the error record.
 ghost use mathlib.Core.Path.{_≡_};
 ghost use mathlib.Core.Bool.{cond};
-ghost use Rattle.model.specs.State.{isReady, isBusy, noErrors, withPhase, withInputs, withSettings, withErrors, withQueues, withProgress, withReads, withPrograms};
+ghost use Rattle.model.specs.State.{isReady, isBusy, noErrors, withSetup, withPhase, withInputs, withSettings, withErrors, withQueues, withProgress, withReads, withPrograms};
 ghost use Rattle.model.specs.Valid.{bothEmpty};
 ghost use Rattle.model.specs.Errors.{recorded};
 ghost use Rattle.model.specs.Refusals.{isDenied};
@@ -16,6 +16,7 @@ use model::Progress;
 use model::Queue;
 use model::Queues;
 use model::Settings;
+use model::Setup;
 
 pub fn is_ready(p: Phase) -> bool
     ensures { λ r. ⌜ r ≡ isReady p ⌝ }
@@ -59,15 +60,12 @@ pub fn readable_by(answer: Answer, o: Operation) -> u32
 fn with_both(c: Controller, phase: Phase, progress: Progress) -> Controller
     ensures { λ r. ⌜ r ≡ withPhase (withProgress c progress) phase ⌝ }
 {
-    let inputs = c.inputs;
-    let settings = c.settings;
+    let setup = c.setup;
     let errors = c.errors;
     let queues = c.queues;
     Controller {
-        pages: c.pages,
+        setup,
         phase,
-        inputs,
-        settings,
         errors,
         queues,
         progress,
@@ -88,20 +86,28 @@ pub fn with_progress(c: Controller, progress: Progress) -> Controller
     with_both(c, phase, progress)
 }
 
+fn with_setup(c: Controller, setup: Setup) -> Controller
+    ensures { λ r. ⌜ r ≡ withSetup c setup ⌝ }
+{
+    let mut next = c;
+    next.setup = setup;
+    next
+}
+
 pub fn with_inputs(c: Controller, inputs: Inputs) -> Controller
     ensures { λ r. ⌜ r ≡ withInputs c inputs ⌝ }
 {
-    let mut next = c;
-    next.inputs = inputs;
-    next
+    let mut setup = c.setup;
+    setup.inputs = inputs;
+    with_setup(c, setup)
 }
 
 pub fn with_settings(c: Controller, settings: Settings) -> Controller
     ensures { λ r. ⌜ r ≡ withSettings c settings ⌝ }
 {
-    let mut next = c;
-    next.settings = settings;
-    next
+    let mut setup = c.setup;
+    setup.settings = settings;
+    with_setup(c, setup)
 }
 
 pub fn with_errors(c: Controller, errors: Errors) -> Controller

@@ -1,5 +1,6 @@
 // Step: one word of the operation in progress moves.
 ghost use mathlib.Core.Path.{_≡_};
+ghost use Rattle.model.specs.State.{flash};
 ghost use Rattle.model.specs.Steps.{step};
 use model::Answer;
 use model::Controller;
@@ -8,7 +9,7 @@ use model::Progress;
 use model::Stepped;
 
 pub fn step(c: Controller, image: &mut [u32]) -> Stepped
-    ensures { λ r. ⌜ record { result = r; flash = record { words = now (image .exit) } } ≡ step c (record { words = now (image .entry) }) ⌝ }
+    ensures { λ r. ⌜ record { result = r; flash = flash (now (image .exit)) } ≡ step c (flash (now (image .entry))) ⌝ }
 {
     let phase = c.phase;
     let ready = refusals::ready_answer(validity::valid_with(c, image), phase);

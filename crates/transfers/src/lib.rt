@@ -3,6 +3,7 @@ ghost use mathlib.Core.Path.{_≡_};
 ghost use mathlib.Core.List.{_++_};
 ghost use Prim.Native.Nat.{_≤_};
 ghost use lib.ListN.{length, drop, replicate};
+ghost use Rattle.model.specs.State.{flash};
 ghost use Rattle.model.specs.Words.{allOnes};
 ghost use Rattle.model.specs.Places.{totalWords};
 ghost use Rattle.plans.specs.Plan.{placesOf, deliveredAt, stored-all, changed-all, programming, erasing, readsDrained, programsDrained, withRecorded};
@@ -10,11 +11,12 @@ ghost use Rattle.transfers.specs.Placed.{Placed};
 use model::Answer;
 use model::Controller;
 use model::Operation;
+use model::Setup;
 
 // A read puts the stored words into the first places of the buffer.
 pub fn read(d: u32, image: &[u32], o: Operation, buffer: &mut [u32])
-    requires { ⌜ Placed d o (record { words = now image }) × (totalWords d o ≤ length (now buffer)) ⌝ }
-    ensures { λ _. ⌜ now (buffer .exit) ≡ deliveredAt (record { words = now (image .entry) }) (placesOf d o) ++ drop (length (placesOf d o)) (now (buffer .entry)) ⌝ }
+    requires { ⌜ Placed d o (flash (now image)) × (totalWords d o ≤ length (now buffer)) ⌝ }
+    ensures { λ _. ⌜ now (buffer .exit) ≡ deliveredAt (flash (now (image .entry))) (placesOf d o) ++ drop (length (placesOf d o)) (now (buffer .entry)) ⌝ }
 {
     let n = places::total_words(d, o);
     for k in 0..n {
@@ -34,30 +36,30 @@ pub fn blank(buffer: &mut [u32], count: usize)
 }
 
 // A program combines each word of the buffer with the stored one. The answer is the number of bits changed.
-pub fn program(c: Controller, image: &mut [u32], o: Operation, buffer: &[u32]) -> u32
-    requires { ⌜ Placed (c .pages) o (record { words = now image }) × (totalWords (c .pages) o ≤ length (now buffer)) ⌝ }
-    ensures { λ r. ⌜ r ≡ changed-all c (programming (now (buffer .entry))) 0 (placesOf (c .pages) o) (record { words = now (image .entry) }) ⌝ }
-    ensures { λ _. ⌜ record { words = now (image .exit) } ≡ stored-all (programming (now (buffer .entry))) 0 (placesOf (c .pages) o) (record { words = now (image .entry) }) ⌝ }
+pub fn program(s: Setup, image: &mut [u32], o: Operation, buffer: &[u32]) -> u32
+    requires { ⌜ Placed (s .pages) o (flash (now image)) × (totalWords (s .pages) o ≤ length (now buffer)) ⌝ }
+    ensures { λ r. ⌜ r ≡ changed-all s (programming (now (buffer .entry))) 0 (placesOf (s .pages) o) (flash (now (image .entry))) ⌝ }
+    ensures { λ _. ⌜ flash (now (image .exit)) ≡ stored-all (programming (now (buffer .entry))) 0 (placesOf (s .pages) o) (flash (now (image .entry))) ⌝ }
 {
-    let n = places::total_words(c.pages, o);
+    let n = places::total_words(s.pages, o);
     let mut bits: u32 = 0;
     for k in 0..n {
-        let place = places::place_of(c.pages, o, k as u32);
+        let place = places::place_of(s.pages, o, k as u32);
         bits += words::program_word(image, place, buffer[k]);
     }
     bits
 }
 
 // An erase leaves ones.
-pub fn erase(c: Controller, image: &mut [u32], o: Operation) -> u32
-    requires { ⌜ Placed (c .pages) o (record { words = now image }) ⌝ }
-    ensures { λ r. ⌜ r ≡ changed-all c erasing 0 (placesOf (c .pages) o) (record { words = now (image .entry) }) ⌝ }
-    ensures { λ _. ⌜ record { words = now (image .exit) } ≡ stored-all erasing 0 (placesOf (c .pages) o) (record { words = now (image .entry) }) ⌝ }
+pub fn erase(s: Setup, image: &mut [u32], o: Operation) -> u32
+    requires { ⌜ Placed (s .pages) o (flash (now image)) ⌝ }
+    ensures { λ r. ⌜ r ≡ changed-all s erasing 0 (placesOf (s .pages) o) (flash (now (image .entry))) ⌝ }
+    ensures { λ _. ⌜ flash (now (image .exit)) ≡ stored-all erasing 0 (placesOf (s .pages) o) (flash (now (image .entry))) ⌝ }
 {
-    let n = places::total_words(c.pages, o);
+    let n = places::total_words(s.pages, o);
     let mut bits: u32 = 0;
     for k in 0..n {
-        let place = places::place_of(c.pages, o, k as u32);
+        let place = places::place_of(s.pages, o, k as u32);
         bits += words::erase_word(image, place);
     }
     bits

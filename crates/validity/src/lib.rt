@@ -2,6 +2,7 @@
 ghost use mathlib.Core.Path.{_≡_};
 ghost use Prim.Native.Nat.{_+_};
 ghost use lib.Dec.{leb};
+ghost use Rattle.model.specs.State.{flash};
 ghost use Rattle.model.specs.Valid.{progressFits, workFits, runningFits, valid, validWith};
 use model::Controller;
 use model::Progress;
@@ -26,6 +27,7 @@ fn pushed_fits(moved: u32, queued: u32, count: u32) -> bool
 fn work_fits(c: Controller, w: Work) -> bool
     ensures { λ r. ⌜ r ≡ workFits c w ⌝ }
 {
+    let setup = c.setup;
     let queued = c.queues.programs.len;
     let none = queued == 0;
     match w {
@@ -35,8 +37,8 @@ fn work_fits(c: Controller, w: Work) -> bool
             readable,
         } => {
             let kind = places::is_read(op);
-            let left = (moved as usize) < places::total_words(c.pages, op);
-            let answer = checks::operation_answer(c, op);
+            let left = (moved as usize) < places::total_words(setup.pages, op);
+            let answer = checks::operation_answer(setup, op);
             let accepted = refusals::accepts(answer);
             let denied = refusals::is_denied(answer);
             let same = readable == state::readable_by(answer, op);
@@ -44,16 +46,16 @@ fn work_fits(c: Controller, w: Work) -> bool
         }
         Work::Program { op, moved } => {
             let kind = places::is_program(op);
-            let left = (moved as usize) < places::total_words(c.pages, op);
-            let accepted = refusals::accepts(checks::operation_answer(c, op));
+            let left = (moved as usize) < places::total_words(setup.pages, op);
+            let accepted = refusals::accepts(checks::operation_answer(setup, op));
             let pushed = pushed_fits(moved, queued, op.count);
             kind & (left & (accepted & pushed))
         }
         Work::Erase { op, moved } => {
             let page = places::is_page_erase(op);
             let bank = places::is_bank_erase(op);
-            let left = (moved as usize) < places::total_words(c.pages, op);
-            let accepted = refusals::accepts(checks::operation_answer(c, op));
+            let left = (moved as usize) < places::total_words(setup.pages, op);
+            let accepted = refusals::accepts(checks::operation_answer(setup, op));
             (page | bank) & (left & (accepted & none))
         }
     }
@@ -73,14 +75,15 @@ fn running_fits(c: Controller, p: Progress) -> bool
 pub fn valid(c: Controller) -> bool
     ensures { λ r. ⌜ r ≡ valid c ⌝ }
 {
-    let settings = c.settings;
+    let setup = c.setup;
+    let settings = setup.settings;
     let errors = c.errors;
     let queues = c.queues;
     let progress = c.progress;
     let phase = c.phase;
     let ready = state::is_ready(phase);
-    let pages = geometry::pages_fit(c.pages);
-    let set = bounds::settings_fit(c.pages, settings);
+    let pages = geometry::pages_fit(setup.pages);
+    let set = bounds::settings_fit(setup.pages, settings);
     let told = bounds::errors_fit(errors);
     let queued = bounds::queues_fit(ready, queues);
     let held = progress_fits(ready, progress);
@@ -90,9 +93,9 @@ pub fn valid(c: Controller) -> bool
 
 // Check 1 of a call that is lent the image.
 pub fn valid_with(c: Controller, image: &[u32]) -> bool
-    ensures { λ r. ⌜ r ≡ validWith c (record { words = now (image .entry) }) ⌝ }
+    ensures { λ r. ⌜ r ≡ validWith c (flash (now (image .entry))) ⌝ }
 {
     let own = valid(c);
-    let fits = image.len() == geometry::image_words(c.pages);
+    let fits = image.len() == geometry::image_words(c.setup.pages);
     own & fits
 }

@@ -136,7 +136,7 @@ fn reset(d: u32) -> Controller {
 }
 
 fn initialise(c: Controller, image: &[u32]) {
-    number(b"initialise, D=", c.pages as u64);
+    number(b"initialise, D=", c.setup.pages as u64);
     number(b", image of ", image.len() as u64);
     text(b" words");
     let r = lifecycle::initialise(c, image);

@@ -19,11 +19,11 @@ use Rattle.model.proofs.Answers.{both-accept, check-passed}
 use Rattle.model.proofs.Accepting.{lent-fits}
 
 pub view-inside : (c : Controller) (f : Flash) (p : Page) → accepts (viewAnswer c f p) ≡ true
-    → (c .pages ≤ 256) × (p .0 < 512) × (firstWord (imagePage (c .pages) false 0 p) .0 + 256 ≤ length (f .words))
+    → (c .setup .pages ≤ 256) × (p .0 < 512) × (firstWord (imagePage (c .setup .pages) false 0 p) .0 + 256 ≤ length (f .words))
 unfolding viewAnswer
 view-inside c f p h =
     let (ready, rest) = both-accept (readyAnswer (validWith c f) (c .phase)) _ h in
     let fits = lent-fits c f (phaseAnswer (c .phase)) ready in
-    let range = both-accept (check (leb (2 * c .pages) (p .0)) OutOfRange) _ rest .0 in
-    let below : p .0 < 2 * c .pages = leb-false _ _ (check-passed _ OutOfRange refl range) in
-    (fits .0, omega arith, omega (arith, data-inside (c .pages) 0 p below))
+    let range = both-accept (check (leb (2 * c .setup .pages) (p .0)) OutOfRange) _ rest .0 in
+    let below : p .0 < 2 * c .setup .pages = leb-false _ _ (check-passed _ OutOfRange refl range) in
+    (fits .0, omega arith, omega (arith, data-inside (c .setup .pages) 0 p below))

@@ -2,6 +2,7 @@
 ghost use mathlib.Core.Path.{_≡_};
 ghost use Prim.Native.Nat.{_+_, _*_};
 ghost use denote.Ref.{ptr};
+ghost use Rattle.model.specs.State.{flash};
 ghost use Rattle.model.specs.Host.{viewAnswer, view};
 use model::Answer;
 use model::BusWord;
@@ -10,13 +11,14 @@ use model::Page;
 
 // Checks 1, 2, 3, 7 and 9, in this order.
 fn view_answer(c: Controller, image: &[u32], p: Page) -> Answer
-    ensures { λ r. ⌜ r ≡ viewAnswer c (record { words = now (image .entry) }) p ⌝ }
+    ensures { λ r. ⌜ r ≡ viewAnswer c (flash (now (image .entry))) p ⌝ }
 {
+    let setup = c.setup;
     let phase = c.phase;
     let ready = refusals::ready_answer(validity::valid_with(c, image), phase);
-    let past = 2 * (c.pages as usize) <= p.0 as usize;
+    let past = 2 * (setup.pages as usize) <= p.0 as usize;
     let range = refusals::check(past, Answer::OutOfRange);
-    let right = refusals::check(host::unreadable(c, p), Answer::Denied);
+    let right = refusals::check(host::unreadable(setup, p), Answer::Denied);
     refusals::or_else(ready, refusals::or_else(range, right))
 }
 
@@ -27,12 +29,12 @@ pub struct ViewPlace {
 }
 
 pub fn view_place(c: Controller, image: &[u32], p: Page) -> ViewPlace
-    ensures answer { λ r. ⌜ r .answer ≡ viewAnswer c (record { words = now (image .entry) }) p ⌝ }
-    ensures start { λ r. ⌜ r .start ≡ view c (record { words = now (image .entry) }) p .start ⌝ }
+    ensures answer { λ r. ⌜ r .answer ≡ viewAnswer c (flash (now (image .entry))) p ⌝ }
+    ensures start { λ r. ⌜ r .start ≡ view c (flash (now (image .entry))) p .start ⌝ }
 {
     let answer = view_answer(c, image, p);
     if refusals::accepts(answer) {
-        let q = geometry::image_page(c.pages, false, 0, p);
+        let q = geometry::image_page(c.setup.pages, false, 0, p);
         return ViewPlace {
             answer,
             start: geometry::first_word(q),
@@ -46,9 +48,9 @@ pub fn view_place(c: Controller, image: &[u32], p: Page) -> ViewPlace
 
 // A data page's own words inside the lent image, or no words. `refusal` is set to the answer's number.
 pub fn view<'a>(c: Controller, image: &'a [u32], p: Page, refusal: &mut u8) -> &'a [u32]
-    ensures words { λ r. ⌜ now r ≡ view c (record { words = now (image .entry) }) p .words ⌝ }
-    ensures place { λ r. ⌜ ptr r ≡ (ptr (image .entry) .0, view c (record { words = now (image .entry) }) p .start .0 * 4 + ptr (image .entry) .1) ⌝ }
-    ensures number { λ _. ⌜ now (refusal .exit) ≡ view c (record { words = now (image .entry) }) p .number ⌝ }
+    ensures words { λ r. ⌜ now r ≡ view c (flash (now (image .entry))) p .words ⌝ }
+    ensures place { λ r. ⌜ ptr r ≡ (ptr (image .entry) .0, view c (flash (now (image .entry))) p .start .0 * 4 + ptr (image .entry) .1) ⌝ }
+    ensures number { λ _. ⌜ now (refusal .exit) ≡ view c (flash (now (image .entry))) p .number ⌝ }
 {
     let place = view_place(c, image, p);
     let answer = place.answer;

@@ -52,7 +52,7 @@ returns-2 c =
       sym (l .before .accepts .ensures) ∙ l .if1 .left,
       blank-read t,
       s .pre .2,
-      told-denied (s .args .c) (s .args .o) d,
+      told-denied (s .args .c .setup) (s .args .o) d,
     )
 
 returns-3 : tie.Need-returns-3

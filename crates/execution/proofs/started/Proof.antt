@@ -8,7 +8,7 @@ use Rattle.execution.proofs.started.Tie as tie
 
 read-requires : tie.Need-read-requires
 read-requires c κs =
-    let s = c .before .before .before .before .before .before in
+    let s = c .before .before .before .before .before .before .before in
     let r = sym (c .before .before .before .is-read .ensures) ∙ c .before .before .if1 .taken in
     let a = s .args in (
       placed (a .c) _ (a .o) (s .pre .0) (s .pre .2),
@@ -17,7 +17,7 @@ read-requires c κs =
 
 program-requires : tie.Need-program-requires
 program-requires c κs =
-    let s = c .before .before .before .before .before .before .before .before in
+    let s = c .before .before .before .before .before .before .before .before .before in
     let p = sym (c .before .before .before .is-program .ensures) ∙ c .before .before .if2 .taken in
     let a = s .args in (
       placed (a .c) _ (a .o) (s .pre .0) (s .pre .2),
@@ -26,7 +26,7 @@ program-requires c κs =
 
 erase-requires : tie.Need-erase-requires
 erase-requires c κs =
-    let s = c .before .before .before .before .before .before .before in
+    let s = c .before .before .before .before .before .before .before .before in
     placed (s .args .c) _ (s .args .o) (s .pre .0) (s .pre .2)
 
 returns : tie.Need-returns

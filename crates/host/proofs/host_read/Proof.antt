@@ -2,6 +2,7 @@
 use mathlib.Core.Path.{_≡_, sym, _∙_}
 use borrow.Author.Needs.{needs}
 use mathlib.Core.Bool.{true}
+use Rattle.model.specs.State.{flash}
 use Rattle.model.specs.Refusals.{accepts}
 use Rattle.model.specs.Steps.{delivered}
 use Rattle.model.specs.Host.{hostAnswer, hostRead}
@@ -10,7 +11,7 @@ use Rattle.host.proofs.host_read.Statement.{statement}
 use Rattle.host.proofs.host_read.Tie as tie
 
 -- In the branch that reads, the checks accepted.
-granted : (c : tie.Then1) → accepts (hostAnswer (c .before .before .before .before .args .c) (record { words = c .before .before .before .before .args .image .now }) (c .before .before .before .before .args .at)) ≡ true
+granted : (c : tie.Then1) → accepts (hostAnswer (c .before .before .before .before .args .c) (flash (c .before .before .before .before .args .image .now)) (c .before .before .before .before .args .at)) ≡ true
 granted c =
     let a = c .before .before .host-answer in
     let yes : accepts (a .result) ≡ true = sym (c .before .accepts .ensures) ∙ c .if1 .taken in

@@ -1,6 +1,7 @@
 -- `lifecycle::initialise` meets its contract. Assumes nothing.
 use mathlib.Core.Path.{_≡_}
 use mathlib.Core.Bool.{true, _&&_}
+use Rattle.model.specs.State.{flash}
 use Rattle.model.specs.Refusals.{accepts}
 use Rattle.model.specs.Lifecycle.{initialiseAnswer, initialise}
 use Rattle.model.proofs.Bool.{and-left}
@@ -9,7 +10,7 @@ use Rattle.lifecycle.proofs.initialise.Statement.{statement}
 use Rattle.lifecycle.proofs.initialise.Tie as tie
 
 -- In the branch that hands out the seeds, the checks accepted and provision is on.
-granted : (c : tie.Then1) → (accepts (initialiseAnswer (c .before .before .before .before .before .before .before .before .before .args .c) (record { words = c .before .before .before .before .before .before .before .before .before .args .image .now })) && c .before .before .before .before .before .before .before .before .before .args .c .inputs .provision) ≡ true
+granted : (c : tie.Then1) → (accepts (initialiseAnswer (c .before .before .before .before .before .before .before .before .before .before .args .c) (flash (c .before .before .before .before .before .before .before .before .before .before .args .image .now))) && c .before .before .before .before .before .before .before .before .before .before .args .c .setup .inputs .provision) ≡ true
 granted c = rw (c .before .before .accepts .ensures, c .before .before .before .before .before .before .before .initialise-answer .ensures) at (c .if1 .taken)
 
 seeds-of-requires : tie.Need-seeds-of-requires

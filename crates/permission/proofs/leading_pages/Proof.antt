@@ -9,10 +9,10 @@ use Rattle.permission.proofs.leading_pages.Statement.{statement}
 use Rattle.permission.proofs.leading_pages.Tie as tie
 
 abbrev Inv-loop : tie.InvT-loop
-Inv-loop c o from count i₀ i = (i ≤ count) × Passed (pageGrants c o) from count i
+Inv-loop s o from count i₀ i = (i ≤ count) × Passed (pageGrants s o) from count i
 
 abbrev μ-loop : tie.MeasureT-loop
-μ-loop c o from count i₀ i = count - i
+μ-loop s o from count i₀ i = count - i
 
 pub leading-pages-spec : {M : Type 1} → statement M
 leading-pages-spec =

@@ -2,6 +2,7 @@
 use mathlib.Core.Path.{_≡_, sym, _∙_}
 use borrow.Author.Needs.{needs}
 use mathlib.Core.Bool.{true}
+use Rattle.model.specs.State.{flash}
 use Rattle.model.specs.Refusals.{accepts}
 use Rattle.model.specs.Lifecycle.{rmaAnswer, rma}
 use Rattle.model.proofs.Accepting.{lent-fits}
@@ -9,7 +10,7 @@ use Rattle.rma.proofs.rma.Statement.{statement}
 use Rattle.rma.proofs.rma.Tie as tie
 
 -- In the branch that wipes, the checks accepted, so check 1 did.
-granted : (c : tie.Then1) → accepts (rmaAnswer (c .before .before .before .before .before .args .c) (record { words = c .before .before .before .before .before .args .image .now })) ≡ true
+granted : (c : tie.Then1) → accepts (rmaAnswer (c .before .before .before .before .before .args .c) (flash (c .before .before .before .before .before .args .image .now))) ≡ true
 granted c =
     let a = c .before .before .rma-answer in
     let yes : accepts (a .result) ≡ true = sym (c .before .accepts .ensures) ∙ c .if1 .taken in

@@ -2,6 +2,7 @@
 use Prim.Native.Nat.{_≤_, _-_}
 use mathlib.Core.Path.{_≡_}
 use native.Mathlib.Omega.{arith}
+use Rattle.model.specs.State.{flash}
 use Rattle.model.specs.Places.{totalWords}
 use Rattle.model.specs.Steps.{countedBits}
 use Rattle.plans.specs.Plan.{programming}
@@ -11,12 +12,12 @@ use Rattle.transfers.proofs.program.Statement.{statement}
 use Rattle.transfers.proofs.program.Tie as tie
 
 abbrev Inv-loop : tie.InvT-loop
-Inv-loop c image₀ o buffer n bits₀ k₀ image bits k =
-    (k ≤ n) × (n ≡ totalWords (c .pages) o)
-    × Storing c o (programming buffer) (record { words = image₀ }) k (record { words = image }) bits
+Inv-loop s image₀ o buffer n bits₀ k₀ image bits k =
+    (k ≤ n) × (n ≡ totalWords (s .pages) o)
+    × Storing s o (programming buffer) (flash image₀) k (flash image) bits
 
 abbrev μ-loop : tie.MeasureT-loop
-μ-loop c image₀ o buffer n bits₀ k₀ image bits k = n - k
+μ-loop s image₀ o buffer n bits₀ k₀ image bits k = n - k
 
 cast-place-of : tie.Need-cast-place-of Inv-loop μ-loop
 cast-place-of c = omega (arith, few-words (c .before .before .before .before .before .pre .0) (c .before .loop .k) (omega arith))

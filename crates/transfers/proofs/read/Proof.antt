@@ -2,6 +2,7 @@
 use Prim.Native.Nat.{_≤_, _-_}
 use mathlib.Core.Path.{_≡_}
 use native.Mathlib.Omega.{arith}
+use Rattle.model.specs.State.{flash}
 use Rattle.model.specs.Places.{totalWords}
 use Rattle.model.specs.Steps.{delivered}
 use Rattle.transfers.proofs.Inside.{few-words, in-image}
@@ -11,7 +12,7 @@ use Rattle.transfers.proofs.read.Tie as tie
 
 abbrev Inv-loop : tie.InvT-loop
 Inv-loop d image o buffer₀ n k₀ buffer k =
-    (k ≤ n) × (n ≡ totalWords d o) × Reading (record { words = image }) d o buffer₀ k buffer
+    (k ≤ n) × (n ≡ totalWords d o) × Reading (flash image) d o buffer₀ k buffer
 
 abbrev μ-loop : tie.MeasureT-loop
 μ-loop d image o buffer₀ n k₀ buffer k = n - k

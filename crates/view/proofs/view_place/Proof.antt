@@ -3,6 +3,7 @@ use mathlib.Core.Path.{_≡_, sym, _∙_}
 use mathlib.Core.Bool.{true, false}
 use native.Mathlib.Omega.{arith}
 use borrow.Author.Needs.{needs}
+use Rattle.model.specs.State.{flash}
 use Rattle.model.specs.Refusals.{accepts}
 use Rattle.model.specs.Host.{viewAnswer, view}
 use Rattle.view.proofs.Inside.{view-inside}
@@ -10,7 +11,7 @@ use Rattle.view.proofs.view_place.Statement.{statement}
 use Rattle.view.proofs.view_place.Tie as tie
 
 -- In the branch that finds the page, the checks accepted.
-granted : (c : tie.Then1) → accepts (viewAnswer (c .before .before .before .before .args .c) (record { words = c .before .before .before .before .args .image .now }) (c .before .before .before .before .args .p)) ≡ true
+granted : (c : tie.Then1) → accepts (viewAnswer (c .before .before .before .before .args .c) (flash (c .before .before .before .before .args .image .now)) (c .before .before .before .before .args .p)) ≡ true
 granted c =
     let a = c .before .before .view-answer in
     let yes : accepts (a .result) ≡ true = sym (c .before .accepts .ensures) ∙ c .if1 .taken in

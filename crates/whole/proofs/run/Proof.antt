@@ -3,6 +3,7 @@ use mathlib.Core.Path.{_≡_, sym, _∙_}
 use mathlib.Core.Bool.{true, false}
 use borrow.Author.Tests.{not-true, not-false}
 use borrow.Author.Needs.{needs}
+use Rattle.model.specs.State.{flash}
 use Rattle.model.specs.Refusals.{accepts}
 use Rattle.model.specs.Checks.{operationAnswer}
 use Rattle.model.specs.Whole.{wholeAnswer, shortBuffer}
@@ -21,8 +22,8 @@ returns c =
 
 -- Past the first test, checks 1 to 4 passed.
 free : (c : tie.Else1)
-    → let a = c .before .before .before .before .before .before .before .before .before .before .before .args in
-    accepts (wholeAnswer (a .c) (record { words = a .image .now })) ≡ true
+    → let a = c .before .before .before .before .before .before .before .before .before .before .before .before .args in
+    accepts (wholeAnswer (a .c) (flash (a .image .now))) ≡ true
 free c =
     let w = c .before .before .before .before .before .before .before .whole-answer in
     rw (w .ensures) at (sym (c .before .accepts .ensures) ∙ not-false _ (c .if1 .left))
@@ -44,13 +45,13 @@ returns-2 c =
 
 -- Past the second, the buffer has room, and the answer is that of 5, 7, 8 and 9.
 room : (c : tie.Else2)
-    → let a = c .before .before .before .before .before .before .before .before .before .before .before .before .args in
+    → let a = c .before .before .before .before .before .before .before .before .before .before .before .before .before .args in
     shortBuffer (a .o) (a .buffer .now) ≡ false
 room c = sym (c .before .before .before .before .before .before .short-buffer .ensures) ∙ c .if2 .left
 
 told : (c : tie.Else2)
-    → let a = c .before .before .before .before .before .before .before .before .before .before .before .before .args in
-    c .before .before .before .or-else .result ≡ operationAnswer (a .c) (a .o)
+    → let a = c .before .before .before .before .before .before .before .before .before .before .before .before .before .args in
+    c .before .before .before .or-else .result ≡ operationAnswer (a .c .setup) (a .o)
 told c =
     let e = c .before .before .before in
     rw (e .or-else .ensures, e .before .before .check .ensures, e .before .before .before .short-buffer .ensures, room c)
