@@ -18,7 +18,7 @@ use Rattle.model.specs.declared.Controller.{Controller}
 use Rattle.model.specs.declared.Answer.the-variants.{Denied}
 use Rattle.model.proofs.Answers.{accepted-passes}
 use Rattle.model.proofs.Order.{pages-bound}
-use Rattle.model.proofs.Free.{whole-free, whole-length}
+use Rattle.model.proofs.Free.{whole-free, whole-fits}
 use Rattle.model.proofs.Answers.{answer-named}
 use Rattle.model.proofs.Places.{moving-words}
 use Rattle.plans.proofs.Wholes.{long}
@@ -31,7 +31,7 @@ module _ (c : Controller) (f : Flash) (o : Operation) (free : accepts (wholeAnsw
   placed ok = record {
     pages = pages-bound c (whole-free c f free .fits);
     ranged = accepted-passes (c .setup) o ok .0;
-    long = whole-length c f free;
+    fits = whole-fits c f free;
   }
 
   module _ (b : List ℕ) (room : shortBuffer o b ≡ false) where

@@ -9,11 +9,12 @@ use Rattle.model.specs.Rights.{dataRights, seedClosed, infoRights, right
 use Rattle.model.specs.Checks.{malformed, outOfRange, crossesWindow, operationAnswer}
 use Rattle.model.specs.Valid.{all, settingsFit, workFits, runningFits, valid, validWith}
 use Rattle.model.specs.Errors.{recorded}
-use Rattle.model.specs.Settings.{setInputs, setRegion, setDefault, setInfo, setErase}
+use Rattle.model.specs.State.{flashFits}
+use Rattle.model.specs.Settings.{setInputs, configured, setRegion, setDefault, setInfo, setErase}
 use Rattle.model.specs.Lifecycle.{reset, initialiseAnswer, initialise}
 use Rattle.model.specs.Steps.{startAnswer, start, pushAnswer, push, stalls, delivered, countedBits, advance, stepProgress, step}
 use Rattle.model.specs.Bench.{openPages, allRights, bench, twoRegions, seedsLocked, programOne, programTwo, cases, holds}
 
 pub starred : all holds cases ≡ true
-unfolding imagePage wordAt programmed differIn changedBits totalWords placeOf held queueOf pushed oldest popped dataRights seedClosed infoRights rightsAt leading allowedWords denied readableWords malformed outOfRange crossesWindow operationAnswer settingsFit workFits runningFits valid validWith recorded setInputs setRegion setDefault setInfo setErase reset initialiseAnswer initialise startAnswer start pushAnswer push stalls delivered countedBits advance stepProgress step openPages allRights bench twoRegions seedsLocked programOne programTwo cases
+unfolding imagePage wordAt programmed differIn changedBits totalWords placeOf held queueOf pushed oldest popped dataRights seedClosed infoRights rightsAt leading allowedWords denied readableWords malformed outOfRange crossesWindow operationAnswer settingsFit workFits runningFits valid flashFits validWith recorded setInputs configured setRegion setDefault setInfo setErase reset initialiseAnswer initialise startAnswer start pushAnswer push stalls delivered countedBits advance stepProgress step openPages allRights bench twoRegions seedsLocked programOne programTwo cases
 starred = refl

@@ -1,11 +1,9 @@
 -- Checks 1 to 4 of a whole operation: they accept a controller that is valid, ready and free. Assumes nothing.
 use mathlib.Core.Path.{_≡_, refl}
 use mathlib.Core.Bool.{true, false, _||_, not, true≢false}
-use lib.ListN.{length}
 use borrow.Author.Tests.{not-false, eqb-true}
-use Rattle.model.specs.Geometry.{imageWords}
 use Rattle.model.specs.Queue.{isEmpty}
-use Rattle.model.specs.State.{Flash, isReady, isBusy, withErrors, withQueues}
+use Rattle.model.specs.State.{Flash, flashFits, isReady, isBusy, withErrors, withQueues}
 use Rattle.model.specs.Refusals.{accepts, readyAnswer}
 use Rattle.model.specs.Checks.{operationAnswer}
 use Rattle.model.specs.Steps.{startAnswer, started, start}
@@ -21,7 +19,7 @@ use Rattle.model.specs.declared.Answer.the-variants.{Busy}
 use Rattle.model.proofs.Bool.{and-left, and-right, or-left, or-right}
 use Rattle.model.proofs.Answers.{both-accept, check-passed, ready-passed, ready-accepts}
 use Rattle.model.proofs.Valid.{valid-parts}
-use Rattle.model.proofs.Moving.{with-valid, with-length}
+use Rattle.model.proofs.Moving.{with-valid, with-fits}
 use Rattle.model.proofs.StepLaws.{start-goes-on}
 use Rattle.model.proofs.Accepting.{ready-valid}
 
@@ -52,11 +50,11 @@ whole-free c f h =
       programs = and-right (isEmpty (c .queues .reads)) _ empty;
     }
 
--- And the image has its length.
-pub whole-length : (c : Controller) (f : Flash) → accepts (wholeAnswer c f) ≡ true → length (f .words) ≡ imageWords (c .setup .pages)
+-- And the flash fits.
+pub whole-fits : (c : Controller) (f : Flash) → accepts (wholeAnswer c f) ≡ true → flashFits (c .setup .pages) f ≡ true
 unfolding wholeAnswer
-whole-length c f h =
-    with-length c f (ready-valid (validWith c f) (c .phase) (both-accept (readyAnswer (validWith c f) (c .phase)) _ h .0))
+whole-fits c f h =
+    with-fits c f (ready-valid (validWith c f) (c .phase) (both-accept (readyAnswer (validWith c f) (c .phase)) _ h .0))
 
 -- A start of a free state comes to checks 5, 7, 8 and 9.
 pub free-start : (c : Controller) (o : Operation) → Free c → start c o ≡ started c o (operationAnswer (c .setup) o)

@@ -3,10 +3,9 @@ use Prim.Native.Nat.{_≤_, _<_}
 use mathlib.Core.Path.{_≡_, sym, ap, _∙_}
 use mathlib.Core.Bool.{true, false, _||_, or-false}
 use lib.ListN.{length}
-use borrow.Author.Tests.{eqb-true}
 use Rattle.model.specs.Geometry.{imageWords}
 use Rattle.model.specs.Places.{totalWords, placeOf}
-use Rattle.model.specs.State.{Flash, isReady}
+use Rattle.model.specs.State.{Flash, flashFits, isReady}
 use Rattle.model.specs.Refusals.{accepts, isDenied}
 use Rattle.model.specs.Checks.{outOfRange, operationAnswer}
 use Rattle.model.specs.Valid.{runningFits, valid, validWith}
@@ -18,6 +17,7 @@ use Rattle.model.specs.declared.Controller.{Controller}
 use Rattle.model.proofs.Bool.{and-left, and-right}
 use Rattle.model.proofs.Places.{place-inside}
 use Rattle.model.proofs.Answers.{asked-in-range}
+use Rattle.model.proofs.Flashes.{fits-length}
 use Rattle.model.proofs.Valid.{valid-parts}
 use Rattle.model.proofs.Order.{pages-bound}
 use Rattle.model.proofs.WorkParts.{operationOf, movedOf, askedFits, WorkParts, work-parts}
@@ -67,11 +67,15 @@ module _ (c : Controller) (w : Work) (h : valid c ≡ true) (e : c .progress ≡
         inside = place-inside (c .setup .pages) (operationOf w) (d .0) r (movedOf w) (busy-parts .left);
       }
 
--- Check 1 of a call that is lent the flash: the state is valid, and the image has its length.
+-- Check 1 of a call that is lent the flash: the state is valid, and the flash fits.
 pub with-valid : (c : Controller) (f : Flash) → validWith c f ≡ true → valid c ≡ true
 unfolding validWith
 with-valid c f h = and-left (valid c) _ h
 
-pub with-length : (c : Controller) (f : Flash) → validWith c f ≡ true → length (f .words) ≡ imageWords (c .setup .pages)
+pub with-fits : (c : Controller) (f : Flash) → validWith c f ≡ true → flashFits (c .setup .pages) f ≡ true
 unfolding validWith
-with-length c f h = eqb-true (length (f .words)) (imageWords (c .setup .pages)) (and-right (valid c) _ h)
+with-fits c f h = and-right (valid c) _ h
+
+-- So the image has its length.
+pub with-length : (c : Controller) (f : Flash) → validWith c f ≡ true → length (f .words) ≡ imageWords (c .setup .pages)
+with-length c f h = fits-length (c .setup .pages) f (with-fits c f h)

@@ -8,13 +8,13 @@ use lib.ListN.{length}
 use borrow.Author.Tests.{leb-true}
 use Rattle.model.specs.Geometry.{dataPages, pageOf}
 use Rattle.model.specs.Kinds.{usesCount}
-use Rattle.model.specs.State.{Flash, imageFits, isBusy}
+use Rattle.model.specs.State.{Flash, flashFits, isBusy}
 use Rattle.model.specs.Rights.{denied}
 use Rattle.model.specs.Refusals.{accepts, check, readyAnswer}
 use Rattle.model.specs.Checks.{unaligned, malformed, pastData, outOfRange, crossesWindow, operationAnswer}
 use Rattle.model.specs.Valid.{valid, validWith, bothEmpty}
 use Rattle.model.specs.Errors.{clear}
-use Rattle.model.specs.Settings.{settingAnswer, setInputs, setRegion, setDefault, setInfo, setErase}
+use Rattle.model.specs.Settings.{settingAnswer, setInputs, configured, setRegion, setDefault, setInfo, setErase}
 use Rattle.model.specs.Lifecycle.{initialiseAnswer, initialise, rmaAnswer, rma}
 use Rattle.model.specs.Steps.{startAnswer, start, push, popAnswer, pop, step}
 use Rattle.model.specs.Host.{unreadable, hostAnswer, hostRead, viewAnswer, view}
@@ -65,7 +65,7 @@ pub not-valid : (c : Controller) (f : Flash) → valid c ≡ false → validWith
 unfolding validWith
 not-valid c f h = rw h
 
-pub wrong-image : (c : Controller) (f : Flash) → imageFits (c .setup .pages) f ≡ false → validWith c f ≡ false
+pub wrong-image : (c : Controller) (f : Flash) → flashFits (c .setup .pages) f ≡ false → validWith c f ≡ false
 unfolding validWith
 wrong-image c f h = rw h (and-false (valid c))
 
@@ -85,7 +85,7 @@ unfolding initialise initialiseAnswer
 initialise-ready c f h p = rw (h, p)
 
 pub settings-invalid : (c : Controller) → valid c ≡ false → SettingsRefuse c Invalid
-unfolding setInputs setRegion setDefault setInfo setErase
+unfolding setInputs configured setRegion setDefault setInfo setErase
 settings-invalid c h = record {
   inputs = λ i. rw h;
   regions = λ n g. rw h;
@@ -117,7 +117,7 @@ unfolding rma rmaAnswer
 rma-busy c f w h p r = rw (h, p, r)
 
 pub settings-busy : (c : Controller) (w : Work) → valid c ≡ true → c .progress ≡ Running w → SettingsRefuse c Busy
-unfolding setInputs setRegion setDefault setInfo setErase
+unfolding setInputs configured setRegion setDefault setInfo setErase
 settings-busy c w h r = record {
   inputs = λ i. rw (h, r);
   regions = λ n g. rw (h, r);

@@ -109,6 +109,23 @@ isolatedPage = 3
 abbrev pub specialPage : ℕ → ℕ → ImagePage
 specialPage d page = infoImagePage d 0 0 page
 
+-- A page of the image: its bank, and its number there. A bank's data pages are 0 to D - 1, its 13 information pages follow.
+abbrev pub bankOfPage : ℕ → ImagePage → ℕ
+bankOfPage d q = q .0 / bankPages d
+
+abbrev pub numberInBank : ℕ → ImagePage → ℕ
+numberInBank d q = q .0 % bankPages d
+
+abbrev pub isData : ℕ → ImagePage → Bool
+isData d q = ltb (numberInBank d q) d
+
+-- A data page's number over both banks, and an information page's among the 26.
+abbrev pub dataPageOf : ℕ → ImagePage → Page
+dataPageOf d q = record { 0 = bankOfPage d q * d + numberInBank d q }
+
+abbrev pub infoIndexOf : ℕ → ImagePage → ℕ
+infoIndexOf d q = bankOfPage d q * 13 + (numberInBank d q - d)
+
 -- The areas of a bank: 0 is its data pages, 1 + t its information pages of type t. How many pages an area has,
 abbrev pub areaCount : ℕ → ℕ → ℕ
 areaCount d zero = d

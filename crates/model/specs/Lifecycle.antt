@@ -2,9 +2,9 @@
 use Prim.Native.Nat.{ℕ, suc, _%_}
 use mathlib.Core.Bool.{Bool, true, false, _&&_, _||_, not, cond}
 use mathlib.Core.List.{List, [], _∷_}
-use lib.Dec.{ltb, eqb}
+use lib.Dec.{eqb}
 use lib.ListN.{take, drop, replicate}
-use Rattle.model.specs.Geometry.{pagesFit, bankPages, firstWord, imagePageOf, specialPage, creatorPage, ownerPage, isolatedPage}
+use Rattle.model.specs.Geometry.{pagesFit, firstWord, imagePageOf, isData, specialPage, creatorPage, ownerPage, isolatedPage}
 use Rattle.model.specs.Words.{allOnes}
 use Rattle.model.specs.State.{Flash, flash, Leaves, withPhase, withQueues, emptyQueues, freshController, isReady, isBusy}
 use Rattle.model.specs.Refusals.{accepts, check, orElse, settle}
@@ -64,9 +64,6 @@ initialise c f = record {
 -- ---- RMA
 
 -- Every data page and the three special pages; other information pages are left alone (000).
-abbrev pub isData : ℕ → ImagePage → Bool
-isData d q = ltb (q .0 % bankPages d) d
-
 abbrev pub isSpecial : ℕ → ImagePage → Bool
 isSpecial d q =
     eqb (q .0) (specialPage d creatorPage .0)

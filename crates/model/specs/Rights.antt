@@ -5,11 +5,12 @@ use mathlib.Core.Bool.{Bool, true, false, _&&_, _||_, not, cond}
 use mathlib.Core.List.{List, [], _∷_}
 use lib.Dec.{ltb, leb, eqb}
 use lib.ListN.{getD}
-use Rattle.model.specs.Geometry.{pageBytes, pageWords, pageOf, bankOf, pageInBank, wordInPage, infoIndex, creatorPage, ownerPage}
+use Rattle.model.specs.Geometry.{pageBytes, pageWords, pageOf, bankOf, pageInBank, wordInPage, infoIndex, isData, dataPageOf, infoIndexOf, creatorPage, ownerPage}
 use Rattle.model.specs.Kinds.{isInformation, isBankErase, rightNeeded}
 use Rattle.model.specs.Places.{spanStart, spanWords}
 use Rattle.model.specs.State.{pageOff}
 use Rattle.model.specs.declared.Page.{Page}
+use Rattle.model.specs.declared.ImagePage.{ImagePage}
 use Rattle.model.specs.declared.Inputs.{Inputs}
 use Rattle.model.specs.declared.Region.{Region}
 use Rattle.model.specs.declared.PageSetting.{PageSetting}
@@ -55,10 +56,18 @@ rightsAt s information t p =
     (infoRights (s .inputs) (s .settings) (infoIndex (bankOf (s .pages) p) t (pageInBank (s .pages) p)))
     (dataRights (s .settings .regions) (s .settings .«default_rights») p)
 
-abbrev pub pageGrants : Setup → Operation → ℕ → Bool
-pageGrants s o p = grants (rightsAt s (isInformation o) (o .info) (record { 0 = p })) (rightNeeded o)
+-- The look-up by page of the image.
+unfoldable pub rightsOfPage : Setup → ImagePage → ℕ
+rightsOfPage s q =
+    cond (isData (s .pages) q)
+    (dataRights (s .settings .regions) (s .settings .«default_rights») (dataPageOf (s .pages) q))
+    (infoRights (s .inputs) (s .settings) (infoIndexOf (s .pages) q))
 
 -- ---- an operation's span
+
+-- A page of the span has the right that the operation needs.
+abbrev pub pageGrants : Setup → Operation → ℕ → Bool
+pageGrants s o p = grants (rightsAt s (isInformation o) (o .info) (record { 0 = p })) (rightNeeded o)
 
 -- How many of the n numbers from `from` on pass a test before the first that fails.
 unfoldable pub leading : (ℕ → Bool) → ℕ → ℕ → ℕ

@@ -23,9 +23,13 @@ settingAnswer c fits =
     (orElse (check (isBusy (c .progress)) Busy)
     (check (not fits) BadSetting))
 
--- The life-cycle inputs: provision enable, and seeds locked.
+-- The life-cycle inputs: provision enable, and seeds locked. They are no setting.
 unfoldable pub setInputs : Controller → Inputs → Outcome
 setInputs c i = settle c (withInputs c i) (settingAnswer c true)
+
+-- Every setting: accepted, these are the settings; refused, nothing changes.
+unfoldable pub configured : Controller → Settings → Bool → Outcome
+configured c s fits = settle c (withSettings c s) (settingAnswer c fits)
 
 -- A region, by its number 0 to 7.
 abbrev pub withRegion : Settings → ℕ → Region → Settings
@@ -37,15 +41,14 @@ withRegion s i g = record {
 }
 
 unfoldable pub setRegion : Controller → ℕ → Region → Outcome
-setRegion c i g =
-    settle c (withSettings c (withRegion (c .setup .settings) i g)) (settingAnswer c (ltb i 8 && regionFits (c .setup .pages) g))
+setRegion c i g = configured c (withRegion (c .setup .settings) i g) (ltb i 8 && regionFits (c .setup .pages) g)
 
 -- The default rights.
 abbrev pub withDefault : Settings → ℕ → Settings
 withDefault s r = record { regions = s .regions; «default_rights» = r; info = s .info; erase = s .erase }
 
 unfoldable pub setDefault : Controller → ℕ → Outcome
-setDefault c r = settle c (withSettings c (withDefault (c .setup .settings) r)) (settingAnswer c (rightsFit r))
+setDefault c r = configured c (withDefault (c .setup .settings) r) (rightsFit r)
 
 -- An information page, by its bank, its type and its number in the type.
 abbrev pub withPage : Settings → ℕ → PageSetting → Settings
@@ -61,8 +64,7 @@ infoExists bank t page = ltb bank 2 && (ltb t 3 && ltb page (infoCount t))
 
 unfoldable pub setInfo : Controller → ℕ → ℕ → ℕ → PageSetting → Outcome
 setInfo c bank t page p =
-    settle c (withSettings c (withPage (c .setup .settings) (infoIndex bank t page) p))
-    (settingAnswer c (infoExists bank t page && pageFits p))
+    configured c (withPage (c .setup .settings) (infoIndex bank t page) p) (infoExists bank t page && pageFits p)
 
 -- A bank's erase permission.
 abbrev pub withErase : Settings → ℕ → Bool → Settings
@@ -74,4 +76,4 @@ withErase s bank on = record {
 }
 
 unfoldable pub setErase : Controller → ℕ → Bool → Outcome
-setErase c bank on = settle c (withSettings c (withErase (c .setup .settings) bank on)) (settingAnswer c (ltb bank 2))
+setErase c bank on = configured c (withErase (c .setup .settings) bank on) (ltb bank 2)

@@ -37,9 +37,9 @@ stored f p = getD (f .words) (p .0) 0
 abbrev pub withWord : Flash → BusWord → ℕ → Flash
 withWord f p w = flash (set (f .words) (p .0) w)
 
--- The image is as long as D says. (01, refusal 1)
-abbrev pub imageFits : ℕ → Flash → Bool
-imageFits d f = eqb (length (f .words)) (imageWords d)
+-- The flash fits D: the image is as long as D says. (01, refusal 1)
+unfoldable pub flashFits : ℕ → Flash → Bool
+flashFits d f = eqb (length (f .words)) (imageWords d)
 
 -- What a call that is lent the flash leaves: its result, and the flash.
 pub record Leaves (Result : Type 0) : Type 0 where

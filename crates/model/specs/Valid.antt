@@ -7,7 +7,7 @@ use Rattle.model.specs.Geometry.{pagesFit, dataPages}
 use Rattle.model.specs.Kinds.{isRead, isProgram, isPageErase, isBankErase}
 use Rattle.model.specs.Places.{totalWords}
 use Rattle.model.specs.Queue.{queueWords, isEmpty}
-use Rattle.model.specs.State.{Flash, imageFits, isReady, isBusy}
+use Rattle.model.specs.State.{Flash, flashFits, isReady, isBusy}
 use Rattle.model.specs.Rights.{readableWords}
 use Rattle.model.specs.Refusals.{accepts, isDenied}
 use Rattle.model.specs.Checks.{operationAnswer}
@@ -100,6 +100,6 @@ valid c =
     && (progressFits (isReady (c .phase)) (c .progress)
     && runningFits c (c .progress)))))
 
--- Check 1 of a call that is lent the flash: the state is valid, and the image as long as D says.
+-- Check 1 of a call that is lent the flash: the state is valid, and the flash fits its D.
 unfoldable pub validWith : Controller → Flash → Bool
-validWith c f = valid c && imageFits (c .setup .pages) f
+validWith c f = valid c && flashFits (c .setup .pages) f

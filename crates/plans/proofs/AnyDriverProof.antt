@@ -24,7 +24,7 @@ use Rattle.model.specs.declared.Answer.{Answer}
 use Rattle.model.proofs.Bool.{which}
 use Rattle.model.proofs.Places.{moving-words}
 use Rattle.model.proofs.WorkParts.{operationOf, atWord}
-use Rattle.model.proofs.Free.{whole-free, whole-length, free-start}
+use Rattle.model.proofs.Free.{whole-free, whole-fits, free-start}
 use Rattle.plans.specs.Plan.{programming, erasing, readsDrained, programsDrained, leaving, withRecorded}
 use Rattle.plans.specs.Driver.{Drive, Driven, stepping, pushing, popping, drives, begun, Ended, SameAs, AnyDriver}
 use Rattle.plans.proofs.Holding.{holds-none}
@@ -116,7 +116,7 @@ module _ (c : Controller) (f : Flash) (o : Operation) (b : List ℕ) (free : acc
     read-same : isRead o ≡ true → SameAs o b (whole c f o b) (endOf c f o ks)
     read-same r =
         let readable : ℕ = readableWords (c .setup) o in
-        let l = whole-length c f free in
+        let l = whole-fits c f free in
         let h = read-begun c f o b free room s r in
         let last : ReadDriven c (recordedBy c o) o f readable (endOf c f o ks) =
         came (ReadDriven c (recordedBy c o) o f readable) (Read o 0 readable) (rw r) refl refl (read-driven c (recordedBy c o) o f readable h l)
@@ -128,7 +128,7 @@ module _ (c : Controller) (f : Flash) (o : Operation) (b : List ℕ) (free : acc
     -- a driven program,
     program-same : isRead o ≡ false → isProgram o ≡ true → SameAs o b (whole c f o b) (endOf c f o ks)
     program-same r p =
-        let l = whole-length c f free in
+        let l = whole-fits c f free in
         let h = program-begun c f o b free room s r p in
         let last : ProgramDriven c (recordedBy c o) o f (endOf c f o ks) =
         came (ProgramDriven c (recordedBy c o) o f) (Program o 0) (rw (r, p)) refl refl (program-driven c (recordedBy c o) o f h l)
@@ -139,7 +139,7 @@ module _ (c : Controller) (f : Flash) (o : Operation) (b : List ℕ) (free : acc
     -- and a driven erase.
     erase-same : isRead o ≡ false → isProgram o ≡ false → SameAs o b (whole c f o b) (endOf c f o ks)
     erase-same r p =
-        let l = whole-length c f free in
+        let l = whole-fits c f free in
         let h = erase-begun c f o b free room s r p in
         let last : EraseDriven c (recordedBy c o) o f (endOf c f o ks) =
         came (EraseDriven c (recordedBy c o) o f) (Erase o 0) (rw (r, p)) refl refl (erase-driven c (recordedBy c o) o f h l)

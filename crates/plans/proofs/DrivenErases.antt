@@ -3,13 +3,11 @@ use Prim.Native.Nat.{ℕ, suc, _≤_}
 use native.Mathlib.Numerals.{add-one}
 use native.Mathlib.Omega.{arith}
 use mathlib.Core.Path.{_≡_, refl, _∙_}
-use mathlib.Core.Bool.{false}
+use mathlib.Core.Bool.{true, false}
 use mathlib.Core.List.{[]}
-use lib.ListN.{length}
-use Rattle.model.specs.Geometry.{imageWords}
 use Rattle.model.specs.Kinds.{isProgram}
 use Rattle.model.specs.Places.{totalWords}
-use Rattle.model.specs.State.{Flash}
+use Rattle.model.specs.State.{Flash, flashFits}
 use Rattle.model.specs.declared.Errors.{Errors}
 use Rattle.model.specs.declared.Operation.{Operation}
 use Rattle.model.specs.declared.Work.the-variants.{Erase}
@@ -17,7 +15,7 @@ use Rattle.model.specs.declared.Controller.{Controller}
 use Rattle.plans.specs.Plan.{erasing}
 use Rattle.plans.specs.Driver.{Driven, stepping, pushing, popping}
 use Rattle.plans.proofs.Running.{stateAt, Begun}
-use Rattle.plans.proofs.Firsts.{storedFirst, changedFirst, stored-length}
+use Rattle.plans.proofs.Firsts.{storedFirst, changedFirst, first-fits}
 use Rattle.plans.proofs.Moves.{erase-queued, erase-moves}
 use Rattle.plans.proofs.Drives.{seen, steps-keep, pushes-same, pops-same}
 
@@ -32,7 +30,7 @@ pub record EraseDriven (c : Controller) (es : Errors) (o : Operation) (f : Flash
   pub upto : k ≤ totalWords (c .setup .pages) o
   pub is : r ≡ eraseSeen c es o f k
 
-module _ (c : Controller) (es : Errors) (o : Operation) (f : Flash) (b : Begun c es (Erase o 0)) (l : length (f .words) ≡ imageWords (c .setup .pages)) where
+module _ (c : Controller) (es : Errors) (o : Operation) (f : Flash) (b : Begun c es (Erase o 0)) (l : flashFits (c .setup .pages) f ≡ true) where
   -- So it is at the start,
   pub erase-driven : EraseDriven c es o f (seen (stateAt c es (Erase o 0) 0 (c .queues)) f [] [] 0)
   unfolding eraseSeen storedFirst changedFirst
@@ -53,10 +51,10 @@ module _ (c : Controller) (es : Errors) (o : Operation) (f : Flash) (b : Begun c
     pub erase-stepping : EraseDriven c es o f (stepping r)
     unfolding eraseSeen storedFirst changedFirst
     erase-stepping =
-        let long : length (storedFirst (c .setup .pages) o erasing (h .k) f .words) ≡ imageWords (c .setup .pages) =
-        stored-length o erasing f (c .setup .pages) (h .k) ∙ l in
-        steps-keep b (erase-queued b (h .upto)) _ [] [] _ r (h .is) (EraseDriven c es o f) long h λ more moves. record {
+        let fits : flashFits (c .setup .pages) (storedFirst (c .setup .pages) o erasing (h .k) f) ≡ true =
+        first-fits o erasing f (c .setup .pages) (h .k) ∙ l in
+        steps-keep b (erase-queued b (h .upto)) _ [] [] _ r (h .is) (EraseDriven c es o f) fits h λ more moves. record {
           k = suc (h .k);
           upto = more;
-          is = rw (h .is, erase-moves (storedFirst (c .setup .pages) o erasing (h .k) f) long more b (erase-queued b (h .upto)), add-one (h .k));
+          is = rw (h .is, erase-moves (storedFirst (c .setup .pages) o erasing (h .k) f) fits more b (erase-queued b (h .upto)), add-one (h .k));
         }

@@ -4,17 +4,16 @@ use native.Mathlib.Nat.{add-zero}
 use native.Mathlib.Numerals.{add-one}
 use native.Mathlib.Omega.{arith}
 use mathlib.Core.Path.{_≡_, refl, _∙_}
-use mathlib.Core.Bool.{false}
+use mathlib.Core.Bool.{true, false}
 use mathlib.Core.Logic.{⊎-elim}
 use mathlib.Core.List.{List, [], _∷_, _++_}
 use lib.ListN.{List·getD-append, length, getD, drop, length-append, length-drop}
 use lib.Seq.{append-snoc, drop-append-le, drop-drop, getD-drop}
 use borrow.Author.Tests.{eqb-false}
 use Rattle.model.specs.Words.{programmed}
-use Rattle.model.specs.Geometry.{imageWords}
 use Rattle.model.specs.Places.{totalWords, placeOf}
 use Rattle.model.specs.Queue.{queueOf, isEmpty, oldest}
-use Rattle.model.specs.State.{Flash, stored, withWord, withPrograms}
+use Rattle.model.specs.State.{Flash, flashFits, stored, withWord, withPrograms}
 use Rattle.model.specs.Refusals.{accepts}
 use Rattle.model.specs.Steps.{countedBits, stalls, pushAnswer}
 use Rattle.model.specs.declared.Errors.{Errors}
@@ -27,7 +26,7 @@ use Rattle.plans.specs.Plan.{programming}
 use Rattle.plans.specs.Driver.{Driven, stepping, pushing, popping}
 use Rattle.plans.proofs.Holding.{Holds, holds-none, holds-made, popped-made, oldest-first}
 use Rattle.plans.proofs.Running.{progressAt, stateAt, Begun, Queued, pushes-refused}
-use Rattle.plans.proofs.Firsts.{storedFirst, changedFirst, stored-length}
+use Rattle.plans.proofs.Firsts.{storedFirst, changedFirst, first-fits}
 use Rattle.plans.proofs.Moves.{program-queued, program-moves, program-pushes, push-room}
 use Rattle.plans.proofs.Drives.{seen, steps-keep, push-same, pops-same}
 
@@ -51,7 +50,7 @@ pub record ProgramDriven (c : Controller) (es : Errors) (o : Operation) (f : Fla
   pub counts : (rest : List ℕ) → bits ≡ changedFirst (c .setup) o (programming (given ++ rest)) k f
   pub is : r ≡ programSeen c es o k queue given flash bits
 
-module _ (c : Controller) (es : Errors) (o : Operation) (f : Flash) (b : Begun c es (Program o 0)) (l : length (f .words) ≡ imageWords (c .setup .pages)) where
+module _ (c : Controller) (es : Errors) (o : Operation) (f : Flash) (b : Begun c es (Program o 0)) (l : flashFits (c .setup .pages) f ≡ true) where
   -- So it is at the start,
   pub program-driven : ProgramDriven c es o f (seen (stateAt c es (Program o 0) 0 (c .queues)) f [] [] 0)
   unfolding programSeen storedFirst changedFirst
@@ -80,9 +79,9 @@ module _ (c : Controller) (es : Errors) (o : Operation) (f : Flash) (b : Begun c
     fits : Queued c (Program o 0) (h .k) (withPrograms (c .queues) (h .queue))
     fits = program-queued b (h .holds) (h .few) (rw left (omega (arith, h .upto, h .most)))
 
-    -- and the image has its length.
-    long : length (h .flash .words) ≡ imageWords (c .setup .pages)
-    long = rw (h .stores []) (stored-length o (programming (h .given ++ [])) f (c .setup .pages) (h .k) ∙ l)
+    -- and so does the flash.
+    flash-fits : flashFits (c .setup .pages) (h .flash) ≡ true
+    flash-fits = rw (h .stores []) (first-fits o (programming (h .given ++ [])) f (c .setup .pages) (h .k) ∙ l)
 
     -- So it is after a push that is accepted,
     accepted : (v : ℕ) → h .k + length (drop (h .k) (h .given)) < o .count → length (drop (h .k) (h .given)) < 16
@@ -148,10 +147,10 @@ module _ (c : Controller) (es : Errors) (o : Operation) (f : Flash) (b : Begun c
           made = λ p. refl;
           stores = λ more. rw (← h .stores more, List·getD-append (h .given) more 0 (h .k) some);
           counts = λ more. rw (← h .stores more, ← h .counts more, List·getD-append (h .given) more 0 (h .k) some);
-          is = rw (h .is, program-moves (h .flash) long more b fits e, first, popped-made (h .holds), rest, add-one (h .k));
+          is = rw (h .is, program-moves (h .flash) flash-fits more b fits e, first, popped-made (h .holds), rest, add-one (h .k));
         }
 
     -- unless none is queued.
     pub program-stepping : ProgramDriven c es o f (stepping r)
     unfolding programSeen stalls
-    program-stepping = steps-keep b fits (h .flash) (h .given) [] (h .bits) r (h .is) (ProgramDriven c es o f) long h moves
+    program-stepping = steps-keep b fits (h .flash) (h .given) [] (h .bits) r (h .is) (ProgramDriven c es o f) flash-fits h moves

@@ -3,16 +3,15 @@ use Prim.Native.Nat.{ℕ, suc, _<_, _≤_}
 use native.Mathlib.Numerals.{add-one}
 use native.Mathlib.Omega.{arith}
 use mathlib.Core.Path.{_≡_, refl, _∙_}
-use mathlib.Core.Bool.{false}
+use mathlib.Core.Bool.{true, false}
 use mathlib.Core.Logic.{⊎-elim}
 use mathlib.Core.List.{List, [], _∷_, _++_, append-assoc}
 use lib.ListN.{length, getD, drop, length-append, length-drop}
 use lib.Seq.{drop-cons, append-snoc}
 use borrow.Author.Tests.{eqb-true, eqb-false, leb-false}
-use Rattle.model.specs.Geometry.{imageWords}
 use Rattle.model.specs.Places.{totalWords}
 use Rattle.model.specs.Queue.{queueOf, isEmpty, isFull}
-use Rattle.model.specs.State.{Flash, withReads}
+use Rattle.model.specs.State.{Flash, flashFits, withReads}
 use Rattle.model.specs.Steps.{stalls}
 use Rattle.model.specs.declared.Errors.{Errors}
 use Rattle.model.specs.declared.Queue.{Queue}
@@ -46,7 +45,7 @@ pub record ReadDriven (c : Controller) (es : Errors) (o : Operation) (f : Flash)
   pub is : r ≡ readSeen c es o f readable k queue taken
 
 module _ (c : Controller) (es : Errors) (o : Operation) (f : Flash) (readable : ℕ) (b : Begun c es (Read o 0 readable))
-    (l : length (f .words) ≡ imageWords (c .setup .pages)) where
+    (l : flashFits (c .setup .pages) f ≡ true) where
   -- So it is at the start,
   pub read-driven : ReadDriven c es o f readable (seen (stateAt c es (Read o 0 readable) 0 (c .queues)) f [] [] 0)
   unfolding readSeen readFirst

@@ -7,12 +7,10 @@ use mathlib.Core.Bool.{true, false}
 use mathlib.Core.Logic.{⊎-elim}
 use mathlib.Core.List.{List, [], _∷_}
 use lib.Dec.{eqb}
-use lib.ListN.{length}
 use borrow.Author.Tests.{eqb-true, eqb-false}
-use Rattle.model.specs.Geometry.{imageWords}
 use Rattle.model.specs.Kinds.{isProgram}
 use Rattle.model.specs.Queue.{isEmpty}
-use Rattle.model.specs.State.{Flash}
+use Rattle.model.specs.State.{Flash, flashFits}
 use Rattle.model.specs.Refusals.{accepts}
 use Rattle.model.specs.Steps.{stalls, push}
 use Rattle.model.specs.Order.{refusedOutcome}
@@ -34,7 +32,7 @@ seen c f given taken bits = record { controller = c; flash = f; given = given; t
 module _ {c : Controller} {es : Errors} {w : Work} {k : ℕ} {q : Queues} (b : Begun c es w) (fits : Queued c w k q) (f : Flash) (given taken : List ℕ)
     (bits : ℕ) (r : Driven) (is : r ≡ seen (stateAt c es w k q) f given taken bits) where
   -- A step keeps what it keeps where it moves a word: otherwise it is refused or waits, and changes nothing.
-  pub steps-keep : (P : Driven → Type 0) → length (f .words) ≡ imageWords (c .setup .pages) → P r
+  pub steps-keep : (P : Driven → Type 0) → flashFits (c .setup .pages) f ≡ true → P r
       → (k < wordsOf c w → stalls q (atWord w k) ≡ false → P (stepping r)) → P (stepping r)
   steps-keep P l h move =
       ⊎-elim (λ done.

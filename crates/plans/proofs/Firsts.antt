@@ -13,10 +13,11 @@ use lib.Seq.{drop-cons, set-at, append-snoc}
 use borrow.Author.Tests.{lt-ltb, le-ltb}
 use Rattle.model.specs.Words.{allOnes}
 use Rattle.model.specs.Places.{placeOf}
-use Rattle.model.specs.State.{Flash, stored, withWord}
+use Rattle.model.specs.State.{Flash, stored, withWord, flashFits}
 use Rattle.model.specs.Steps.{delivered, countedBits}
 use Rattle.model.specs.declared.Operation.{Operation}
 use Rattle.model.specs.declared.Setup.{Setup}
+use Rattle.model.proofs.Flashes.{stored-fits}
 use Rattle.plans.specs.Plan.{placesFrom, deliveredAt, stored-all, changed-all}
 
 -- There are as many places as words.
@@ -88,11 +89,17 @@ changedFirst s o new (suc k) f =
     (new k (stored (storedFirst (s .pages) o new k f) (placeOf (s .pages) o k)))
 
 module _ (o : Operation) (new : ℕ → ℕ → ℕ) (f : Flash) where
-  -- The image keeps its length.
+  -- The image keeps its length,
   pub stored-length : (d k : ℕ) → length (storedFirst d o new k f .words) ≡ length (f .words)
   unfolding storedFirst
   stored-length d zero = refl
   stored-length d (suc k) = rw length-set (stored-length d k)
+
+  -- so the flash fits as it did.
+  pub first-fits : (d k : ℕ) → flashFits d (storedFirst d o new k f) ≡ flashFits d f
+  unfolding storedFirst
+  first-fits d zero = refl
+  first-fits d (suc k) = stored-fits d (storedFirst d o new k f) (placeOf d o k) _ ∙ first-fits d k
 
   -- The places from word k on store what the later words do.
   stored-from : (d n k : ℕ) → stored-all new k (placesFrom d o k n) (storedFirst d o new k f) ≡ storedFirst d o new (k + n) f

@@ -8,10 +8,9 @@ use lib.Dec.{eqb}
 use lib.ListN.{length}
 use borrow.Author.Tests.{eqb-true, ne-eqb, le-leb, lt-leb}
 use Rattle.model.specs.Words.{allOnes, programmed}
-use Rattle.model.specs.Geometry.{imageWords}
 use Rattle.model.specs.Places.{totalWords, placeOf}
 use Rattle.model.specs.Queue.{queueOf, isEmpty, isFull, pushed, oldest, popped}
-use Rattle.model.specs.State.{Flash, Leaves, stored, withWord, withReads, withPrograms}
+use Rattle.model.specs.State.{Flash, flashFits, Leaves, stored, withWord, withReads, withPrograms}
 use Rattle.model.specs.Refusals.{accepts}
 use Rattle.model.specs.Steps.{countedBits, movement, stalls, advance, step, pushAnswer, push}
 use Rattle.model.specs.declared.Errors.{Errors}
@@ -82,7 +81,7 @@ storedTo c x o k new g =
     (countedBits (c .setup) (placeOf (c .setup .pages) o k) (stored g (placeOf (c .setup .pages) o k)) new)
     (withWord g (placeOf (c .setup .pages) o k) new)
 
-module _ {c : Controller} {es : Errors} {o : Operation} {k : ℕ} {q : Queues} (g : Flash) (l : length (g .words) ≡ imageWords (c .setup .pages))
+module _ {c : Controller} {es : Errors} {o : Operation} {k : ℕ} {q : Queues} (g : Flash) (l : flashFits (c .setup .pages) g ≡ true)
     (more : k < totalWords (c .setup .pages) o) where
   -- A read's step puts the next word into the read queue;
   pub read-moves : {r : ℕ} → Begun c es (Read o 0 r) → Queued c (Read o 0 r) k q → isFull (q .reads) ≡ false

@@ -5,13 +5,11 @@ use mathlib.Core.Path.{_≡_, refl, sym, ap, _∙_}
 use mathlib.Core.Bool.{true, false, cond, true≢false}
 use mathlib.Core.Logic.{⊎-elim}
 use lib.Dec.{eqb}
-use lib.ListN.{length}
 use borrow.Author.Tests.{leb-true, le-leb, eqb-true, eqb-false, eq-eqb, ne-eqb}
-use Rattle.model.specs.Geometry.{imageWords}
 use Rattle.model.specs.Kinds.{isProgram}
 use Rattle.model.specs.Places.{totalWords}
 use Rattle.model.specs.Queue.{isEmpty, pushed, oldest, popped}
-use Rattle.model.specs.State.{Flash, isBusy, withErrors, withQueues, withReads, withPrograms}
+use Rattle.model.specs.State.{Flash, flashFits, isBusy, withErrors, withQueues, withReads, withPrograms}
 use Rattle.model.specs.Refusals.{accepts, readyAnswer}
 use Rattle.model.specs.Checks.{operationAnswer}
 use Rattle.model.specs.Errors.{recorded}
@@ -133,12 +131,12 @@ module _ {c : Controller} {es : Errors} {w : Work} {k : ℕ} {q : Queues} (b : B
   unfolding stateAt
   ready-at = rw valid-at (ready-accepts (c .phase) (b .free .ready))
 
-  -- with an image of its length too.
-  ready-with : (g : Flash) → length (g .words) ≡ imageWords (c .setup .pages)
+  -- with a flash that fits too.
+  ready-with : (g : Flash) → flashFits (c .setup .pages) g ≡ true
       → accepts (readyAnswer (validWith (stateAt c es w k q) g) (stateAt c es w k q .phase)) ≡ true
   unfolding stateAt validWith
   ready-with g e =
-      rw (valid-at, eq-eqb (length (g .words)) (imageWords (c .setup .pages)) e) (ready-accepts (c .phase) (b .free .ready))
+      rw (valid-at, e) (ready-accepts (c .phase) (b .free .ready))
 
   -- ---- pop
 
@@ -157,13 +155,13 @@ module _ {c : Controller} {es : Errors} {w : Work} {k : ℕ} {q : Queues} (b : B
   -- ---- step
 
   -- After the last word it is refused.
-  pub steps-done : (g : Flash) → length (g .words) ≡ imageWords (c .setup .pages) → k ≡ wordsOf c w
+  pub steps-done : (g : Flash) → flashFits (c .setup .pages) g ≡ true → k ≡ wordsOf c w
       → step (stateAt c es w k q) g ≡ still (stateAt c es w k q) Unexpected None g
   unfolding stateAt
   steps-done g l e = sym (step-idle (stateAt c es w k q) g (ready-with g l) (rw (eq-eqb k (wordsOf c w) e)))
 
   -- Before it,
-  module _ (g : Flash) (l : length (g .words) ≡ imageWords (c .setup .pages)) (more : k < wordsOf c w) where
+  module _ (g : Flash) (l : flashFits (c .setup .pages) g ≡ true) (more : k < wordsOf c w) where
     -- the operation is in progress,
     running : stateAt c es w k q .progress ≡ Running (atWord w k)
     unfolding stateAt

@@ -8,10 +8,9 @@ use mathlib.Core.List.{List, [], _∷_, _++_}
 use lib.ListN.{length, getD, drop, set}
 use borrow.Author.Tests.{lt-leb}
 use Rattle.model.specs.Words.{allOnes}
-use Rattle.model.specs.Geometry.{imageWords}
 use Rattle.model.specs.Kinds.{isRead, isProgram}
 use Rattle.model.specs.Places.{totalWords, placeOf}
-use Rattle.model.specs.State.{Flash, stored, withWord, withReads, withPrograms}
+use Rattle.model.specs.State.{Flash, flashFits, stored, withWord, withReads, withPrograms}
 use Rattle.model.specs.Steps.{countedBits}
 use Rattle.model.specs.Whole.{Run, turn, turns}
 use Rattle.model.specs.declared.Errors.{Errors}
@@ -21,7 +20,7 @@ use Rattle.model.specs.declared.Controller.{Controller}
 use Rattle.plans.specs.Plan.{programming, erasing}
 use Rattle.plans.proofs.Holding.{holds-made, pushed-made, popped-made, oldest-first, drained, drained-holds}
 use Rattle.plans.proofs.Running.{stateAt, Begun, pops}
-use Rattle.plans.proofs.Firsts.{readWord, readFirst, read-next, storedFirst, changedFirst, stored-length}
+use Rattle.plans.proofs.Firsts.{readWord, readFirst, read-next, storedFirst, changedFirst, first-fits}
 use Rattle.plans.proofs.Moves.{program-words, read-queued, program-queued, erase-queued, program-pushes, read-moves, program-moves, erase-moves}
 
 -- What the calls work on.
@@ -40,7 +39,7 @@ programmingAt c es o b k f bits =
 unfoldable pub erasingAt : Controller → Errors → Operation → List ℕ → ℕ → Flash → ℕ → Run
 erasingAt c es o b k f bits = runAt (stateAt c es (Erase o 0) k (c .queues)) f b bits
 
-module _ (c : Controller) (es : Errors) (o : Operation) (f : Flash) (b : List ℕ) (l : length (f .words) ≡ imageWords (c .setup .pages)) where
+module _ (c : Controller) (es : Errors) (o : Operation) (f : Flash) (b : List ℕ) (l : flashFits (c .setup .pages) f ≡ true) where
   -- ---- reads
 
   module _ (readable : ℕ) (begun : Begun c es (Read o 0 readable)) (kind : isRead o ≡ true) where
@@ -78,7 +77,7 @@ module _ (c : Controller) (es : Errors) (o : Operation) (f : Flash) (b : List �
 
   module _ (begun : Begun c es (Program o 0)) (other : isRead o ≡ false) (kind : isProgram o ≡ true) where
     -- A push and a step store the buffer's next word,
-    program-turn : (k : ℕ) (g : Flash) (bits : ℕ) → length (g .words) ≡ imageWords (c .setup .pages) → k < totalWords (c .setup .pages) o
+    program-turn : (k : ℕ) (g : Flash) (bits : ℕ) → flashFits (c .setup .pages) g ≡ true → k < totalWords (c .setup .pages) o
         → turn o k (programmingAt c es o b k g bits)
         ≡ programmingAt c es o b (suc k) (withWord g (placeOf (c .setup .pages) o k) (programming b k (stored g (placeOf (c .setup .pages) o k))))
         (bits + countedBits (c .setup) (placeOf (c .setup .pages) o k) (stored g (placeOf (c .setup .pages) o k)) (programming b k (stored g (placeOf (c .setup .pages) o k))))
@@ -106,13 +105,13 @@ module _ (c : Controller) (es : Errors) (o : Operation) (f : Flash) (b : List �
     program-turns (suc k) h =
         ap (turn o k) (program-turns k (omega arith))
         ∙ program-turn k (storedFirst (c .setup .pages) o (programming b) k f) (changedFirst (c .setup) o (programming b) k f)
-        (stored-length o (programming b) f (c .setup .pages) k ∙ l) h
+        (first-fits o (programming b) f (c .setup .pages) k ∙ l) h
 
   -- ---- erases
 
   module _ (begun : Begun c es (Erase o 0)) (other : isRead o ≡ false) (neither : isProgram o ≡ false) where
     -- A step stores ones at the next place,
-    erase-turn : (k : ℕ) (g : Flash) (bits : ℕ) → length (g .words) ≡ imageWords (c .setup .pages) → k < totalWords (c .setup .pages) o
+    erase-turn : (k : ℕ) (g : Flash) (bits : ℕ) → flashFits (c .setup .pages) g ≡ true → k < totalWords (c .setup .pages) o
         → turn o k (erasingAt c es o b k g bits)
         ≡ erasingAt c es o b (suc k) (withWord g (placeOf (c .setup .pages) o k) allOnes)
         (bits + countedBits (c .setup) (placeOf (c .setup .pages) o k) (stored g (placeOf (c .setup .pages) o k)) allOnes)
@@ -129,4 +128,4 @@ module _ (c : Controller) (es : Errors) (o : Operation) (f : Flash) (b : List �
     erase-turns (suc k) h =
         ap (turn o k) (erase-turns k (omega arith))
         ∙ erase-turn k (storedFirst (c .setup .pages) o erasing k f) (changedFirst (c .setup) o erasing k f)
-        (stored-length o erasing f (c .setup .pages) k ∙ l) h
+        (first-fits o erasing f (c .setup .pages) k ∙ l) h

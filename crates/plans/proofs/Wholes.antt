@@ -24,7 +24,7 @@ use Rattle.model.proofs.Order.{pages-bound}
 use Rattle.model.proofs.Valid.{valid-parts}
 use Rattle.model.proofs.WorkParts.{operationOf, atWord}
 use Rattle.model.proofs.Starting.{recorded-fits, starts-well, first-word, read-starts, program-starts, erase-starts}
-use Rattle.model.proofs.Free.{whole-free, whole-length, free-start}
+use Rattle.model.proofs.Free.{whole-free, whole-fits, free-start}
 use Rattle.plans.specs.Plan.{programming, erasing, readsDrained, programsDrained, leaving, withRecorded}
 use Rattle.plans.proofs.Holding.{drained-some}
 use Rattle.plans.proofs.Running.{wordsOf, stateAt, recordedBy, Begun, at-start, at-end}
@@ -90,7 +90,7 @@ module _ (c : Controller) (f : Flash) (o : Operation) (b : List ℕ) (free : acc
         let n = long (omega (arith, eqb-true (o .kind) 0 r)) in
         driven (Read o 0 (readableWords (c .setup) o)) (rw r) refl refl
         ∙ ap (completed (operationAnswer (c .setup) o))
-        (read-turns c (recordedBy c o) o f b (whole-length c f free) (readableWords (c .setup) o) (read-begun r) r n (totalWords (c .setup .pages) o) (omega arith))
+        (read-turns c (recordedBy c o) o f b (whole-fits c f free) (readableWords (c .setup) o) (read-begun r) r n (totalWords (c .setup .pages) o) (omega arith))
         ∙ rw (drained-some (totalWords (c .setup .pages) o) (c .queues .reads) some, at-end c (recordedBy c o) (Read o 0 (readableWords (c .setup) o)) _ (whole-free c f free))
 
     -- a program,
@@ -102,7 +102,7 @@ module _ (c : Controller) (f : Flash) (o : Operation) (b : List ℕ) (free : acc
     whole-program r p =
         driven (Program o 0) (rw (r, p)) refl refl
         ∙ ap (completed (operationAnswer (c .setup) o))
-        (program-turns c (recordedBy c o) o f b (whole-length c f free) (program-begun r p) r p (totalWords (c .setup .pages) o) (omega arith))
+        (program-turns c (recordedBy c o) o f b (whole-fits c f free) (program-begun r p) r p (totalWords (c .setup .pages) o) (omega arith))
         ∙ rw (drained-some (totalWords (c .setup .pages) o) (c .queues .programs) some, at-end c (recordedBy c o) (Program o 0) _ (whole-free c f free))
 
     -- and an erase.
@@ -114,7 +114,7 @@ module _ (c : Controller) (f : Flash) (o : Operation) (b : List ℕ) (free : acc
     whole-erase r p =
         driven (Erase o 0) (rw (r, p)) refl refl
         ∙ ap (completed (operationAnswer (c .setup) o))
-        (erase-turns c (recordedBy c o) o f b (whole-length c f free) (erase-begun r p) r p (totalWords (c .setup .pages) o) (omega arith))
+        (erase-turns c (recordedBy c o) o f b (whole-fits c f free) (erase-begun r p) r p (totalWords (c .setup .pages) o) (omega arith))
         ∙ rw (at-end c (recordedBy c o) (Erase o 0) (c .queues) (whole-free c f free))
 
   -- What does not start is recorded, and moves no word.

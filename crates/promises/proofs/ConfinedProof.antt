@@ -6,10 +6,11 @@ use mathlib.Core.Bool.{Bool, true, false, _&&_, _||_, not, and-false, true≢fal
 use mathlib.Core.List.{List, [], _∷_}
 use lib.ListN.{getD}
 use borrow.Author.Tests.{eqb-true}
+use Rattle.model.specs.Geometry.{bankOfPage}
 use Rattle.model.specs.Kinds.{isProgram, isPageErase, isBankErase, rightNeeded, programRight, eraseRight}
 use Rattle.model.specs.Places.{totalWords, placeOf}
 use Rattle.model.specs.State.{Flash}
-use Rattle.model.specs.Rights.{grants}
+use Rattle.model.specs.Rights.{grants, rightsOfPage}
 use Rattle.model.specs.Refusals.{accepts}
 use Rattle.model.specs.Checks.{operationAnswer}
 use Rattle.model.specs.Valid.{valid}
@@ -22,6 +23,7 @@ use Rattle.model.specs.declared.Setup.{Setup}
 use Rattle.model.specs.declared.Controller.{Controller}
 use Rattle.model.proofs.Bool.{and-left, and-right, by-test}
 use Rattle.model.proofs.Answers.{accepted-passes}
+use Rattle.model.proofs.Pages.{place-granted, place-permitted}
 use Rattle.model.proofs.Flashes.{other-page}
 use Rattle.model.proofs.Order.{pages-bound}
 use Rattle.model.proofs.Moving.{busy-parts}
@@ -29,10 +31,9 @@ use Rattle.model.proofs.StepLaws.{StepLeaves, same, programs, erases, step-leav
 use Rattle.plans.proofs.Firsts.{storedFirst}
 use Rattle.plans.proofs.Changes.{WholeChanges, same, programs, erases, whole-changes}
 use Rattle.promises.specs.Calls.{Call, State, perform}
-use Rattle.promises.specs.Confined.{bankOfPage, rightsOfPage, protected, wordsOf, isRma, Confined}
+use Rattle.promises.specs.Confined.{protected, wordsOf, isRma, Confined}
 use Rattle.promises.proofs.Validity.{call-keeps}
 use Rattle.promises.proofs.FlashLaws.{Touches, same, steps, runs, wipes, flash-touched}
-use Rattle.promises.proofs.PageLaws.{place-granted, place-permitted}
 
 -- ---- a page that may be changed is not protected
 

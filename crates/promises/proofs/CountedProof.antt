@@ -25,7 +25,8 @@ use Rattle.model.specs.declared.Progress.the-variants.{Idle, Running}
 use Rattle.model.specs.declared.Controller.{Controller}
 use Rattle.model.proofs.Bool.{by-test}
 use Rattle.model.proofs.WorkParts.{operationOf, movedOf}
-use Rattle.model.proofs.Moving.{busy-parts, with-valid, with-length}
+use Rattle.model.proofs.Flashes.{same-fits}
+use Rattle.model.proofs.Moving.{busy-parts, with-valid, with-fits}
 use Rattle.model.proofs.StepLaws.{advance-accepts, step-ready, step-unready, busy-steps}
 use Rattle.promises.specs.Calls.{Call, State, Shaped, Step, Push, Pop, perform, replies}
 use Rattle.promises.specs.Counted as driving
@@ -174,7 +175,9 @@ with-rest w m false h e = cc
 still-fits : (s : State) (k : Call) → Tells s k → valid (perform s k .state .controller) ≡ true
     → validWith (s .controller) (s .flash) ≡ true → validWith (perform s k .state .controller) (perform s k .state .flash) ≡ true
 unfolding validWith
-still-fits s k t v h = rw (v, t .pages, t .long) (eq-eqb _ _ (with-length (s .controller) (s .flash) h))
+still-fits s k t v h =
+    rw (v, t .pages, same-fits (s .controller .setup .pages) (perform s k .state .flash) (s .flash) (t .long))
+    (with-fits (s .controller) (s .flash) h)
 
 -- One call more, before a list that counts from where it left.
 one-more : (s : State) (k : Call) (ks : List Call) → Shaped (s .controller) → validWith (s .controller) (s .flash) ≡ true

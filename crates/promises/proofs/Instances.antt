@@ -7,12 +7,12 @@ use Rattle.model.specs.Geometry.{imagePage, wordAt}
 use Rattle.model.specs.Words.{allOnes, programmed}
 use Rattle.model.specs.Places.{totalWords, placeOf}
 use Rattle.model.specs.Queue.{held, queueOf, pushed, oldest, popped}
-use Rattle.model.specs.State.{flash, freshController}
-use Rattle.model.specs.Rights.{dataRights, rightsAt, leading, allowedWords, denied, readableWords}
+use Rattle.model.specs.State.{flash, flashFits, freshController}
+use Rattle.model.specs.Rights.{dataRights, rightsAt, rightsOfPage, leading, allowedWords, denied, readableWords}
 use Rattle.model.specs.Checks.{malformed, outOfRange, crossesWindow, operationAnswer}
 use Rattle.model.specs.Valid.{settingsFit, workFits, runningFits, valid, validWith}
 use Rattle.model.specs.Errors.{recorded}
-use Rattle.model.specs.Settings.{setRegion}
+use Rattle.model.specs.Settings.{configured, setRegion}
 use Rattle.model.specs.Lifecycle.{initialiseAnswer, initialise}
 use Rattle.model.specs.Steps.{startAnswer, start, pushAnswer, push, popAnswer, pop, stalls, advance, stepProgress, step}
 use Rattle.model.specs.Whole.{turn, turns, wholeAnswer, drive, whole}
@@ -21,7 +21,7 @@ use Rattle.model.specs.declared.Operation.{Operation}
 use Rattle.model.specs.declared.Work.the-variants.{Read}
 use Rattle.model.specs.declared.Progress.the-variants.{Running}
 use Rattle.promises.specs.Calls.{Call, State, Shaped, SetRegion, Initialise, Start, Step, Push, Whole, perform, run}
-use Rattle.promises.specs.Confined.{rightsOfPage, protected, protectedAlong, bitOf}
+use Rattle.promises.specs.Confined.{protected, protectedAlong, bitOf}
 use Rattle.promises.specs.Counted.{wordsLeft}
 use Rattle.promises.specs.Unknown.{stateOf}
 
@@ -76,7 +76,7 @@ pub record Met : Type 0 where
   pub blank : reached read .controller .progress ≡ Running (Read read 0 0)
 
 pub met : Met
-unfolding imagePage wordAt programmed totalWords placeOf held queueOf pushed oldest popped leading dataRights rightsAt allowedWords denied readableWords malformed outOfRange crossesWindow operationAnswer settingsFit workFits runningFits valid validWith recorded setRegion initialiseAnswer initialise startAnswer start pushAnswer push stalls advance stepProgress step popAnswer pop turn turns wholeAnswer drive whole perform rightsOfPage protected
+unfolding imagePage wordAt programmed totalWords placeOf held queueOf pushed oldest popped leading dataRights rightsAt allowedWords denied readableWords malformed outOfRange crossesWindow operationAnswer settingsFit workFits runningFits valid flashFits validWith recorded configured setRegion initialiseAnswer initialise startAnswer start pushAnswer push stalls advance stepProgress step popAnswer pop turn turns wholeAnswer drive whole perform rightsOfPage protected
 met = record {
   shaped = record { regions = refl; info = refl; erase = refl; reads = refl; programs = refl };
   ours = refl;

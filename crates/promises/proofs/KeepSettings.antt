@@ -8,7 +8,7 @@ use lib.ListN.{set, length-set}
 use Rattle.model.specs.Geometry.{infoIndex}
 use Rattle.model.specs.State.{withInputs, withSettings}
 use Rattle.model.specs.Refusals.{settle}
-use Rattle.model.specs.Settings.{settingAnswer, setInputs, withRegion, setRegion, withDefault, setDefault, withPage, infoExists, setInfo, withErase, setErase}
+use Rattle.model.specs.Settings.{settingAnswer, setInputs, configured, withRegion, setRegion, withDefault, setDefault, withPage, infoExists, setInfo, withErase, setErase}
 use Rattle.model.specs.Valid.{all, regionFits, pageFits, rightsFit}
 use Rattle.model.specs.declared.Inputs.{Inputs}
 use Rattle.model.specs.declared.Region.{Region}
@@ -27,14 +27,14 @@ all-set test (y ∷ ys) zero x h e = rw (e, and-right (test y) _ h)
 all-set test (y ∷ ys) (suc i) x h e = rw (and-left (test y) _ h, all-set test ys i x (and-right (test y) _ h) e)
 
 -- A controller with other inputs and settings.
-abbrev configured : Controller → Inputs → Settings → Controller
-configured c i s = withSettings (withInputs c i) s
+abbrev withBoth : Controller → Inputs → Settings → Controller
+withBoth c i s = withSettings (withInputs c i) s
 
 module _ (c : Controller) (v : Valid c) where
   -- Inputs and settings that fit, checked by 1, 4 and 13, keep a valid state valid,
-  configured-keeps : (i : Inputs) (s : Settings) (fits : Bool) → (fits ≡ true → ValidSettings (c .setup .pages) s)
-      → Valid (settle c (configured c i s) (settingAnswer c fits) .controller)
-  configured-keeps i s fits f = settle-keeps c (configured c i s) (settingAnswer c fits) v λ h.
+  both-keep : (i : Inputs) (s : Settings) (fits : Bool) → (fits ≡ true → ValidSettings (c .setup .pages) s)
+      → Valid (settle c (withBoth c i s) (settingAnswer c fits) .controller)
+  both-keep i s fits f = settle-keeps c (withBoth c i s) (settingAnswer c fits) v λ h.
       let (idle, e) = setting-passed c fits h in
       record {
         pages = v .pages;
@@ -44,19 +44,24 @@ module _ (c : Controller) (v : Valid c) where
         programs = v .programs;
         closed = v .closed;
         progress = v .progress;
-        running = empty-idle (configured c i s) (c .progress) idle (idle-empty c (c .progress) idle (v .running));
+        running = empty-idle (withBoth c i s) (c .progress) idle (idle-empty c (c .progress) idle (v .running));
       }
 
   -- so inputs do,
   pub inputs-keep : (i : Inputs) → Valid (setInputs c i .controller)
   unfolding setInputs
-  inputs-keep i = configured-keeps i (c .setup .settings) true (λ e. v .settings)
+  inputs-keep i = both-keep i (c .setup .settings) true (λ e. v .settings)
+
+  -- and every setting:
+  configured-keeps : (s : Settings) (fits : Bool) → (fits ≡ true → ValidSettings (c .setup .pages) s) → Valid (configured c s fits .controller)
+  unfolding configured
+  configured-keeps s fits f = both-keep (c .setup .inputs) s fits f
 
   -- a region,
   pub region-keeps : (i : ℕ) (g : Region) → Valid (setRegion c i g .controller)
   unfolding setRegion
   region-keeps i g =
-      configured-keeps (c .setup .inputs) (withRegion (c .setup .settings) i g) (ltb i 8 && regionFits (c .setup .pages) g)
+      configured-keeps (withRegion (c .setup .settings) i g) (ltb i 8 && regionFits (c .setup .pages) g)
       λ e. record {
         region-places = rw length-set (v .settings .region-places);
         info-places = v .settings .info-places;
@@ -69,7 +74,7 @@ module _ (c : Controller) (v : Valid c) where
   -- the default rights,
   pub default-keeps : (r : ℕ) → Valid (setDefault c r .controller)
   unfolding setDefault
-  default-keeps r = configured-keeps (c .setup .inputs) (withDefault (c .setup .settings) r) (rightsFit r) λ e. record {
+  default-keeps r = configured-keeps (withDefault (c .setup .settings) r) (rightsFit r) λ e. record {
     region-places = v .settings .region-places;
     info-places = v .settings .info-places;
     erase-places = v .settings .erase-places;
@@ -82,7 +87,7 @@ module _ (c : Controller) (v : Valid c) where
   pub page-keeps : (bank t page : ℕ) (p : PageSetting) → Valid (setInfo c bank t page p .controller)
   unfolding setInfo
   page-keeps bank t page p =
-      configured-keeps (c .setup .inputs) (withPage (c .setup .settings) (infoIndex bank t page) p)
+      configured-keeps (withPage (c .setup .settings) (infoIndex bank t page) p)
       (infoExists bank t page && pageFits p) λ e. record {
         region-places = v .settings .region-places;
         info-places = rw length-set (v .settings .info-places);
@@ -96,7 +101,7 @@ module _ (c : Controller) (v : Valid c) where
   -- and a bank's erase permission.
   pub erase-keeps : (bank : ℕ) (on : Bool) → Valid (setErase c bank on .controller)
   unfolding setErase
-  erase-keeps bank on = configured-keeps (c .setup .inputs) (withErase (c .setup .settings) bank on) (ltb bank 2) λ e. record {
+  erase-keeps bank on = configured-keeps (withErase (c .setup .settings) bank on) (ltb bank 2) λ e. record {
     region-places = v .settings .region-places;
     info-places = v .settings .info-places;
     erase-places = rw length-set (v .settings .erase-places);

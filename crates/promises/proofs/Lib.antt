@@ -12,7 +12,6 @@ pub mod Validity
 -- the others
 pub mod FlashLaws
 pub mod RefusedWholes
-pub mod PageLaws
 pub mod RefusedProof
 pub mod UnknownProof
 pub mod CountedProof

@@ -7,7 +7,7 @@ use Rattle.model.specs.Refusals.{numberOf, accepts, isDenied}
 use Rattle.model.specs.Checks.{operationAnswer}
 use Rattle.model.specs.Valid.{valid}
 use Rattle.model.specs.Errors.{recorded, clear}
-use Rattle.model.specs.Settings.{setInputs, setRegion, setDefault, setInfo, setErase}
+use Rattle.model.specs.Settings.{setInputs, configured, setRegion, setDefault, setInfo, setErase}
 use Rattle.model.specs.Lifecycle.{reset, initialise, rma}
 use Rattle.model.specs.Steps.{startAnswer, progressAfter, started, start, push, pop}
 use Rattle.model.specs.Host.{hostRead, view}
@@ -50,7 +50,7 @@ start-left c o h =
 
 -- Every refused call leaves what the table says.
 pub refused-moves-nothing : RefusedMovesNothing
-unfolding perform reset setInputs setRegion setDefault setInfo setErase initialise push pop hostRead view clear rma
+unfolding perform reset setInputs configured setRegion setDefault setInfo setErase initialise push pop hostRead view clear rma
 refused-moves-nothing s (Reset d) h = record { flash = refl; controller = rw (accepts-not _ h); reply = refl }
 refused-moves-nothing s (SetInputs i) h = record { flash = refl; controller = rw (accepts-not _ h); reply = refl }
 refused-moves-nothing s (SetRegion n g) h = record { flash = refl; controller = rw (accepts-not _ h); reply = refl }

@@ -16,6 +16,7 @@ use Rattle.model.specs.declared.Work.the-variants.{Read}
 use Rattle.model.specs.declared.Progress.the-variants.{Idle, Running}
 use Rattle.model.specs.declared.Controller.{Controller}
 use Rattle.model.proofs.Bool.{by-test}
+use Rattle.model.proofs.Flashes.{same-fits}
 use Rattle.model.proofs.StepLaws.{step-ready, step-unready, running-accepts}
 use Rattle.plans.proofs.Changes.{whole-answers}
 use Rattle.promises.specs.Calls.{Call, Reset, SetInputs, SetRegion, SetDefault, SetInfo, SetErase, Initialise, Start, Step, Push, Pop, Whole, HostRead, ViewPage, Clear, Rma, perform}
@@ -29,7 +30,7 @@ module _ (c : Controller) (f g : Flash) (long : length (f .words) ≡ length (g 
   -- check 1 says the same,
   same-valid : validWith c f ≡ validWith c g
   unfolding validWith
-  same-valid = rw long
+  same-valid = rw (same-fits (c .setup .pages) f g long)
 
   -- and so does a step of what is in progress,
   progress-answer : (p : Progress) → stepProgress c f p .result .answer ≡ stepProgress c g p .result .answer

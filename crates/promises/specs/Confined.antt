@@ -1,18 +1,18 @@
 -- Confinement: a page that may be neither programmed nor erased keeps every word, and a 0 bit becomes 1 only by an erase
 -- or RMA that covers it.
-use Prim.Native.Nat.{ℕ, zero, suc, _-_, _*_, _+_, _/_, _%_, _^_}
+use Prim.Native.Nat.{ℕ, zero, suc, _/_, _%_, _^_}
 use mathlib.Core.Path.{_≡_}
-use mathlib.Core.Bool.{Bool, true, false, _&&_, _||_, not, cond}
+use mathlib.Core.Bool.{Bool, true, false, _&&_, _||_, not}
 use mathlib.Core.List.{List, [], _∷_}
 use lib.Dec.{eqb}
 use lib.ListN.{getD}
-use Rattle.model.specs.Geometry.{bankPages}
+use Rattle.model.specs.Geometry.{bankOfPage}
 use Rattle.model.specs.Kinds.{isPageErase, isBankErase, programRight, eraseRight}
 use Rattle.model.specs.Places.{totalWords, placeOf}
 use Rattle.model.specs.State.{Flash}
 pub use Rattle.model.specs.State.{wordsOf}
-use Rattle.model.specs.Rights.{grants, dataRights, infoRights}
-use Rattle.model.specs.Lifecycle.{isData, isWiped}
+use Rattle.model.specs.Rights.{grants, rightsOfPage}
+use Rattle.model.specs.Lifecycle.{isWiped}
 use Rattle.model.specs.Valid.{valid}
 use Rattle.model.specs.declared.ImagePage.{ImagePage}
 use Rattle.model.specs.declared.Operation.{Operation}
@@ -23,23 +23,7 @@ use Rattle.model.specs.declared.Setup.{Setup}
 use Rattle.model.specs.declared.Controller.{Controller}
 use Rattle.promises.specs.Calls.{Call, State, Shaped, Reset, SetInputs, SetRegion, SetDefault, SetInfo, SetErase, Initialise, Start, Step, Push, Pop, Whole, HostRead, ViewPage, Clear, Rma, perform, run}
 
--- ---- a page of the image: its bank and its rights
-
-abbrev pub bankOfPage : ℕ → ImagePage → ℕ
-bankOfPage d q = q .0 / bankPages d
-
--- Its number in its bank: the data pages are 0 to D - 1, the 13 information pages follow.
-abbrev pub numberInBank : ℕ → ImagePage → ℕ
-numberInBank d q = q .0 % bankPages d
-
--- A data page's rights are its region's or the default ones; an information page has none if it is switched off or closed
--- by its seed rule.
-unfoldable pub rightsOfPage : Setup → ImagePage → ℕ
-rightsOfPage s q =
-    cond (isData (s .pages) q)
-    (dataRights (s .settings .regions) (s .settings .«default_rights»)
-    (record { 0 = bankOfPage (s .pages) q * s .pages + numberInBank (s .pages) q }))
-    (infoRights (s .inputs) (s .settings) (bankOfPage (s .pages) q * 13 + (numberInBank (s .pages) q - s .pages)))
+-- ---- a protected page
 
 -- Neither the program nor the erase right, in a bank whose erase permission is off.
 unfoldable pub protected : Setup → ImagePage → Bool

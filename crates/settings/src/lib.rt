@@ -1,6 +1,6 @@
 // The inputs, the settings, and clearing the error record: calls that change the controller's parts and lend no image.
 ghost use mathlib.Core.Path.{_≡_};
-ghost use Rattle.model.specs.Settings.{settingAnswer, setInputs, setRegion, setDefault, setInfo, setErase};
+ghost use Rattle.model.specs.Settings.{settingAnswer, setInputs, configured, setRegion, setDefault, setInfo, setErase};
 ghost use Rattle.model.specs.Errors.{clear};
 use model::Answer;
 use model::Controller;
@@ -8,6 +8,7 @@ use model::Inputs;
 use model::Outcome;
 use model::PageSetting;
 use model::Region;
+use model::Settings;
 
 // Checks 1, 4 and 13, in this order.
 fn setting_answer(c: Controller, fits: bool) -> Answer
@@ -20,7 +21,7 @@ fn setting_answer(c: Controller, fits: bool) -> Answer
     refusals::or_else(first, refusals::or_else(second, third))
 }
 
-// The life-cycle inputs: provision enable, and seeds locked.
+// The life-cycle inputs: provision enable, and seeds locked. They are no setting.
 pub fn set_inputs(c: Controller, inputs: Inputs) -> Outcome
     ensures { λ r. ⌜ r ≡ setInputs c inputs ⌝ }
 {
@@ -29,15 +30,27 @@ pub fn set_inputs(c: Controller, inputs: Inputs) -> Outcome
     refusals::settle(c, next, answer)
 }
 
+// Every setting: accepted, these are the settings; refused, nothing changes.
+fn configured(c: Controller, settings: Settings, fits: bool) -> Outcome
+    ensures { λ r. ⌜ r ≡ configured c settings fits ⌝ }
+{
+    let answer = setting_answer(c, fits);
+    let next = state::with_settings(c, settings);
+    refusals::settle(c, next, answer)
+}
+
+// A region, by its number 0 to 7.
 pub fn set_region(c: Controller, number: u32, g: Region) -> Outcome
     ensures { λ r. ⌜ r ≡ setRegion c number g ⌝ }
 {
     let setup = c.setup;
     let settings = setup.settings;
     let fits = bounds::region_fits(setup.pages, g);
-    let answer = setting_answer(c, (number < 8) & fits);
-    let next = state::with_settings(c, tables::with_region(settings, number as usize, g));
-    refusals::settle(c, next, answer)
+    configured(
+        c,
+        tables::with_region(settings, number as usize, g),
+        (number < 8) & fits,
+    )
 }
 
 // The rights of the data pages that no region decides.
@@ -46,9 +59,11 @@ pub fn set_default(c: Controller, rights: u8) -> Outcome
 {
     let setup = c.setup;
     let settings = setup.settings;
-    let answer = setting_answer(c, bounds::rights_fit(rights));
-    let next = state::with_settings(c, tables::with_default(settings, rights));
-    refusals::settle(c, next, answer)
+    configured(
+        c,
+        tables::with_default(settings, rights),
+        bounds::rights_fit(rights),
+    )
 }
 
 // An information page, by its bank, its type and its number in the type.
@@ -59,10 +74,8 @@ pub fn set_info(c: Controller, bank: u32, t: u8, page: u32, p: PageSetting) -> O
     let settings = setup.settings;
     let exists = tables::info_exists(bank, t, page);
     let fits = bounds::page_fits(p);
-    let answer = setting_answer(c, exists & fits);
     let index = geometry::info_index(bank, t, page);
-    let next = state::with_settings(c, tables::with_page(settings, index, p));
-    refusals::settle(c, next, answer)
+    configured(c, tables::with_page(settings, index, p), exists & fits)
 }
 
 // A bank's erase permission.
@@ -71,9 +84,7 @@ pub fn set_erase(c: Controller, bank: u32, on: bool) -> Outcome
 {
     let setup = c.setup;
     let settings = setup.settings;
-    let answer = setting_answer(c, bank < 2);
-    let next = state::with_settings(c, tables::with_erase(settings, bank as usize, on));
-    refusals::settle(c, next, answer)
+    configured(c, tables::with_erase(settings, bank as usize, on), bank < 2)
 }
 
 // Clears the error record: the kinds and the last address.

@@ -20,6 +20,7 @@ use Rattle.model.specs.declared.Controller.{Controller}
 use Rattle.model.specs.declared.Answer.{Answer}
 use Rattle.model.specs.declared.Answer.the-variants.{Denied}
 use Rattle.model.proofs.Bool.{and-left, and-right, or-left, or-right, by-test}
+use Rattle.model.proofs.Flashes.{same-fits}
 use Rattle.model.proofs.Valid.{valid-parts}
 use Rattle.model.proofs.Starting.{recorded-fits}
 use Rattle.model.proofs.Free.{whole-free, free-again}
@@ -116,7 +117,7 @@ still-accepted c f g p at e h =
     rw (
       free-again c (errorsAfter p at (c .errors)) (queuesAfter p (c .queues)) v fits empty,
       v .fits,
-      e,
+      same-fits (c .setup .pages) g f e,
       empty,
       v .reads,
       v .programs,

@@ -10,6 +10,7 @@ use Rattle.model.specs.State.{Flash}
 use Rattle.model.specs.declared.BusWord.{BusWord}
 use Rattle.model.specs.declared.Operation.{Operation}
 use Rattle.model.proofs.Bool.{which}
+use Rattle.model.proofs.Flashes.{fits-length}
 use Rattle.model.proofs.Places.{place-inside, span-address-fits, bank-words-le}
 use Rattle.transfers.specs.Placed.{Placed}
 
@@ -24,4 +25,4 @@ module _ {d : ℕ} {o : Operation} {f : Flash} (p : Placed d o f) (k : ℕ) (h :
 
   -- and each lies in the image.
   pub in-image : (at : BusWord) → at ≡ placeOf d o k → at .0 < length (f .words)
-  in-image at e = rw (e, p .long) (place-inside d o (p .pages .0) (p .ranged) k h)
+  in-image at e = rw (e, fits-length d f (p .fits)) (place-inside d o (p .pages .0) (p .ranged) k h)

@@ -10,6 +10,4 @@ set-default-spec =
     (λ c κs. tt)
     (λ c κs. tt)
     (λ c κs. tt)
-    (λ c κs. tt)
-    (λ c κs. tt)
-    (λ c. rw (c .settle .ensures, c .before .with-settings .ensures, c .before .before .with-default .ensures, c .before .before .before .setting-answer .ensures, c .before .before .before .before .rights-fit .ensures)))
+    (λ c. rw (c .configured .ensures, c .before .rights-fit .ensures, c .before .before .with-default .ensures)))

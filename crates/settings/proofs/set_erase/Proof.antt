@@ -9,6 +9,4 @@ set-erase-spec =
     tie.close (tie.spec
     (λ c κs. tt)
     (λ c κs. tt)
-    (λ c κs. tt)
-    (λ c κs. tt)
-    (λ c. rw (c .settle .ensures, c .before .with-settings .ensures, c .before .before .with-erase .ensures, c .before .before .before .setting-answer .ensures)))
+    (λ c. rw (c .configured .ensures, c .before .with-erase .ensures)))

@@ -12,6 +12,4 @@ set-info-spec =
     (λ c κs. tt)
     (λ c κs. tt)
     (λ c κs. tt)
-    (λ c κs. tt)
-    (λ c κs. tt)
-    (λ c. rw (c .settle .ensures, c .before .with-settings .ensures, c .before .before .with-page .ensures, c .before .before .before .info-index .ensures, c .before .before .before .before .setting-answer .ensures, c .before .before .before .before .before .page-fits .ensures, c .before .before .before .before .before .before .info-exists .ensures)))
+    (λ c. rw (c .configured .ensures, c .before .with-page .ensures, c .before .before .info-index .ensures, c .before .before .before .page-fits .ensures, c .before .before .before .before .info-exists .ensures)))

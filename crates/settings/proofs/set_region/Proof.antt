@@ -10,6 +10,4 @@ set-region-spec =
     (λ c κs. tt)
     (λ c κs. tt)
     (λ c κs. tt)
-    (λ c κs. tt)
-    (λ c κs. tt)
-    (λ c. rw (c .settle .ensures, c .before .with-settings .ensures, c .before .before .with-region .ensures, c .before .before .before .setting-answer .ensures, c .before .before .before .before .region-fits .ensures)))
+    (λ c. rw (c .configured .ensures, c .before .with-region .ensures, c .before .before .region-fits .ensures)))
