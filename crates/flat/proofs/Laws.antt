@@ -11,11 +11,13 @@ use Rattle.model.specs.Valid.{all, workFits, runningFits, valid}
 use Rattle.model.specs.declared.Region.{Region}
 use Rattle.model.specs.declared.PageSetting.{PageSetting}
 use Rattle.model.specs.declared.Errors.{Errors}
+use Rattle.model.specs.declared.Queue.{Queue}
 use Rattle.model.specs.declared.Operation.{Operation}
 use Rattle.model.specs.declared.Work.{Work}
 use Rattle.model.specs.declared.Work.the-variants.{Read, Program, Erase}
 use Rattle.model.specs.declared.Progress.{Progress}
 use Rattle.model.specs.declared.Progress.the-variants.{Idle, Running}
+use Rattle.model.specs.declared.Setup.{Setup}
 use Rattle.model.specs.declared.Controller.{Controller}
 use Rattle.model.proofs.Bool.{and-left, and-right, by-test}
 use Rattle.model.proofs.Valid.{valid-parts}
@@ -131,24 +133,24 @@ erase-kind o h =
     (λ other. let bank : isBankErase o ≡ true = rw other at h in let three : o .kind ≡ 3 = eqb-true (o .kind) 3 bank in (omega arith, omega arith))
 
 -- The kind of a valid operation in progress is that of its work, so the struct's kind tells the work.
-work-forth : (c : Controller) (p : FlatProgress) (w : Work) → workFits c w ≡ true → workOf (putWork p w) ≡ w
+work-forth : (t : Setup) (queued : Queue) (p : FlatProgress) (w : Work) → workFits t queued w ≡ true → workOf (putWork p w) ≡ w
 unfolding workFits
-work-forth c p (Read o moved readable) h = rw (and-left (isRead o) _ h)
-work-forth c p (Program o moved) h =
+work-forth t queued p (Read o moved readable) h = rw (and-left (isRead o) _ h)
+work-forth t queued p (Program o moved) h =
     let program = and-left (isProgram o) _ h in
     let one : o .kind ≡ 1 = eqb-true (o .kind) 1 program in
     rw (ne-eqb (o .kind) 0 (λ zero. omega arith), program)
-work-forth c p (Erase o moved) h =
+work-forth t queued p (Erase o moved) h =
     let kind = erase-kind o (and-left (isPageErase o || isBankErase o) _ h) in
     rw (ne-eqb (o .kind) 0 (λ zero. omega arith), ne-eqb (o .kind) 1 (λ one. omega arith))
 
-work-put : (c : Controller) (p : FlatProgress) (w : Work) → workFits c w ≡ true → leb (putWork p w .operation .kind) 3 ≡ true
+work-put : (t : Setup) (queued : Queue) (p : FlatProgress) (w : Work) → workFits t queued w ≡ true → leb (putWork p w .operation .kind) 3 ≡ true
 unfolding workFits
-work-put c p (Read o moved readable) h =
+work-put t queued p (Read o moved readable) h =
     let zero : o .kind ≡ 0 = eqb-true (o .kind) 0 (and-left (isRead o) _ h) in le-leb (o .kind) 3 (omega arith)
-work-put c p (Program o moved) h =
+work-put t queued p (Program o moved) h =
     let one : o .kind ≡ 1 = eqb-true (o .kind) 1 (and-left (isProgram o) _ h) in le-leb (o .kind) 3 (omega arith)
-work-put c p (Erase o moved) h = le-leb _ _ (erase-kind o (and-left (isPageErase o || isBankErase o) _ h) .1)
+work-put t queued p (Erase o moved) h = le-leb _ _ (erase-kind o (and-left (isPageErase o || isBankErase o) _ h) .1)
 
 -- Work that is put into the struct is running.
 runs : (p : FlatProgress) (w : Work) → putWork p w .running ≡ 1
@@ -156,28 +158,28 @@ runs p (Read o moved readable) = refl
 runs p (Program o moved) = refl
 runs p (Erase o moved) = refl
 
-progress-forth : (c : Controller) (p : FlatProgress) (q : Progress) → runningFits c q ≡ true → progressOf (putProgress p q) ≡ q
+progress-forth : (t : Setup) (queued : Queue) (p : FlatProgress) (q : Progress) → runningFits t queued q ≡ true → progressOf (putProgress p q) ≡ q
 unfolding runningFits
-progress-forth c p Idle h = by-test (isOn (p .running)) (λ on. rw on) (λ off. rw off (rw off))
-progress-forth c p (Running w) h = rw (runs p w, work-forth c p w h)
+progress-forth t queued p Idle h = by-test (isOn (p .running)) (λ on. rw on) (λ off. rw off (rw off))
+progress-forth t queued p (Running w) h = rw (runs p w, work-forth t queued p w h)
 
 off-is-zero : (x : ℕ) → isOn x ≡ false → x ≡ 0
 off-is-zero x off = by-test (eqb x 0) (λ zero. eqb-true x 0 zero) (λ other. absurd (true≢false (rw other at off)))
 
-progress-put : (c : Controller) (p : FlatProgress) (q : Progress) → runningFits c q ≡ true → progressEncoded (putProgress p q) ≡ true
+progress-put : (t : Setup) (queued : Queue) (p : FlatProgress) (q : Progress) → runningFits t queued q ≡ true → progressEncoded (putProgress p q) ≡ true
 unfolding runningFits
-progress-put c p Idle h =
+progress-put t queued p Idle h =
     by-test (isOn (p .running)) (λ on. rw on) (λ off. let zero : p .running ≡ 0 = off-is-zero (p .running) off in rw (off, zero))
-progress-put c p (Running w) h = rw (runs p w, work-put c p w h)
+progress-put t queued p (Running w) h = rw (runs p w, work-put t queued p w h)
 
 pub put-encoded : (s : FlatController) (c : Controller) → valid c ≡ true → encoded (put s c) ≡ true
 unfolding put encoded
 put-encoded s c h =
     let v = valid-parts c h in
-    rw (number-is-phase (c .phase), flag-is-flag (c .setup .inputs .provision), flag-is-flag (c .setup .inputs .locked), all-mapped flatRegion regionEncoded (λ g. flag-is-flag (g .on)) (c .setup .settings .regions), all-mapped flatSetting settingEncoded (λ p. flag-is-flag (p .on)) (c .setup .settings .info), all-mapped flagOf isFlag flag-is-flag (c .setup .settings .erase), progress-put c (s .progress) (c .progress) (v .running), mask-is-mask (c .errors))
+    rw (number-is-phase (c .phase), flag-is-flag (c .setup .inputs .provision), flag-is-flag (c .setup .inputs .locked), all-mapped flatRegion regionEncoded (λ g. flag-is-flag (g .on)) (c .setup .settings .regions), all-mapped flatSetting settingEncoded (λ p. flag-is-flag (p .on)) (c .setup .settings .info), all-mapped flagOf isFlag flag-is-flag (c .setup .settings .erase), progress-put (c .setup) (c .queues .programs) (s .progress) (c .progress) (v .running), mask-is-mask (c .errors))
 
 pub decode-put : (s : FlatController) (c : Controller) → valid c ≡ true → decode (put s c) ≡ c
 unfolding put decode
 decode-put s c h =
     let v = valid-parts c h in
-    rw (put-encoded s c h, phase-of-number (c .phase), on-flag (c .setup .inputs .provision), on-flag (c .setup .inputs .locked), list-forth regionOf flatRegion region-forth (c .setup .settings .regions), list-forth settingOf flatSetting setting-forth (c .setup .settings .info), list-forth isOn flagOf on-flag (c .setup .settings .erase), recorded-of-mask (c .errors), progress-forth c (s .progress) (c .progress) (v .running))
+    rw (put-encoded s c h, phase-of-number (c .phase), on-flag (c .setup .inputs .provision), on-flag (c .setup .inputs .locked), list-forth regionOf flatRegion region-forth (c .setup .settings .regions), list-forth settingOf flatSetting setting-forth (c .setup .settings .info), list-forth isOn flagOf on-flag (c .setup .settings .erase), recorded-of-mask (c .errors), progress-forth (c .setup) (c .queues .programs) (s .progress) (c .progress) (v .running))

@@ -15,7 +15,6 @@ pub mod Valid
 pub mod WorkParts
 pub mod Order
 pub mod Moving
-pub mod SameChecks
 pub mod Starting
 pub mod StepLaws
 pub mod Accepting

@@ -27,7 +27,7 @@ pub queue-bounds : (c : Controller) → valid c ≡ true → (c .queues .reads .
 queue-bounds c h = let v = valid-parts c h in (v .reads, v .programs)
 
 -- and what is in progress fits.
-pub running-fits : (c : Controller) → valid c ≡ true → runningFits c (c .progress) ≡ true
+pub running-fits : (c : Controller) → valid c ≡ true → runningFits (c .setup) (c .queues .programs) (c .progress) ≡ true
 running-fits c h = valid-parts c h .running
 
 -- Work that was asked for was accepted, or is a denied read.
@@ -51,9 +51,9 @@ module _ (c : Controller) (w : Work) (h : valid c ≡ true) (e : c .progress ≡
   busy-ready = simp (e, or-false) at (valid-parts c h .progress)
 
   -- the work has each part,
-  pub busy-parts : WorkParts c w
+  pub busy-parts : WorkParts (c .setup) (c .queues .programs) w
   unfolding runningFits
-  busy-parts = work-parts c w (sym (ap (runningFits c) e) ∙ running-fits c h)
+  busy-parts = work-parts (c .setup) (c .queues .programs) w (sym (ap (runningFits (c .setup) (c .queues .programs)) e) ∙ running-fits c h)
 
   -- and its next word has its place.
   pub moving : Moving c w

@@ -75,8 +75,8 @@ module _ (c : Controller) (o : Operation) (d : 10 ≤ c .setup .pages) (empty : 
   first-word = some-words (c .setup .pages) o d (starts-well (c .setup) o s)
 
   -- and so its work fits: a read's,
-  pub read-starts : isRead o ≡ true → workFits c (Read o 0 (readableWords (c .setup) o)) ≡ true
-  read-starts r = work-together c (Read o 0 (readableWords (c .setup) o)) (record {
+  pub read-starts : isRead o ≡ true → workFits (c .setup) (c .queues .programs) (Read o 0 (readableWords (c .setup) o)) ≡ true
+  read-starts r = work-together (c .setup) (c .queues .programs) (Read o 0 (readableWords (c .setup) o)) (record {
     kind = r;
     left = first-word;
     asked = rw r at s;
@@ -85,8 +85,8 @@ module _ (c : Controller) (o : Operation) (d : 10 ≤ c .setup .pages) (empty : 
   })
 
   -- a program's,
-  pub program-starts : isRead o ≡ false → isProgram o ≡ true → workFits c (Program o 0) ≡ true
-  program-starts r p = work-together c (Program o 0) (record {
+  pub program-starts : isRead o ≡ false → isProgram o ≡ true → workFits (c .setup) (c .queues .programs) (Program o 0) ≡ true
+  program-starts r p = work-together (c .setup) (c .queues .programs) (Program o 0) (record {
     kind = p;
     left = first-word;
     asked = rw (r, or-false) at s;
@@ -95,8 +95,8 @@ module _ (c : Controller) (o : Operation) (d : 10 ≤ c .setup .pages) (empty : 
   })
 
   -- and an erase's.
-  pub erase-starts : isRead o ≡ false → isProgram o ≡ false → workFits c (Erase o 0) ≡ true
-  erase-starts r p = work-together c (Erase o 0) (record {
+  pub erase-starts : isRead o ≡ false → isProgram o ≡ false → workFits (c .setup) (c .queues .programs) (Erase o 0) ≡ true
+  erase-starts r p = work-together (c .setup) (c .queues .programs) (Erase o 0) (record {
     kind = erase-kind o (well-formed o (starts-well (c .setup) o s) .kind) r p;
     left = first-word;
     asked = rw (r, or-false) at s;
@@ -105,7 +105,7 @@ module _ (c : Controller) (o : Operation) (d : 10 ≤ c .setup .pages) (empty : 
   })
 
   -- So the work of whatever starts fits.
-  pub work-starts : workFits c (workOf (c .setup) o) ≡ true
+  pub work-starts : workFits (c .setup) (c .queues .programs) (workOf (c .setup) o) ≡ true
   work-starts =
       by-test (isRead o) (λ r. rw r (read-starts r))
       (λ r. rw r (by-test (isProgram o) (λ p. rw p (program-starts r p)) (λ p. rw p (erase-starts r p))))

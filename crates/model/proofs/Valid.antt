@@ -15,7 +15,11 @@ use Rattle.model.specs.Rights.{readableWords}
 use Rattle.model.specs.Refusals.{accepts, isDenied}
 use Rattle.model.specs.Checks.{operationAnswer}
 use Rattle.model.specs.Valid.{all, settingsFit, errorsFit, bothEmpty, queuesFit, progressFits, runningFits, valid}
+use Rattle.model.specs.declared.Phase.{Phase}
+use Rattle.model.specs.declared.Errors.{Errors}
 use Rattle.model.specs.declared.Queue.{Queue}
+use Rattle.model.specs.declared.Queues.{Queues}
+use Rattle.model.specs.declared.Progress.{Progress}
 use Rattle.model.specs.declared.Operation.{Operation}
 use Rattle.model.specs.declared.Setup.{Setup}
 use Rattle.model.specs.declared.Controller.{Controller}
@@ -23,6 +27,10 @@ use Rattle.model.proofs.Bool.{and-left, and-right}
 use Rattle.model.proofs.Answers.{asked-in-range}
 
 -- ---- a valid state, part by part
+
+-- A controller with the same setup.
+abbrev pub changed : Controller → Phase → Errors → Queues → Progress → Controller
+changed c ph e q p = record { setup = c .setup; phase = ph; errors = e; queues = q; progress = p }
 
 pub record ValidParts (c : Controller) : Type 0 where
   pub pages : pagesFit (c .setup .pages) ≡ true
@@ -32,7 +40,7 @@ pub record ValidParts (c : Controller) : Type 0 where
   pub programs : c .queues .programs .len ≤ 16
   pub closed : (isReady (c .phase) || bothEmpty (c .queues)) ≡ true
   pub progress : progressFits (isReady (c .phase)) (c .progress) ≡ true
-  pub running : runningFits c (c .progress) ≡ true
+  pub running : runningFits (c .setup) (c .queues .programs) (c .progress) ≡ true
 
 pub valid-parts : (c : Controller) → valid c ≡ true → ValidParts c
 unfolding valid

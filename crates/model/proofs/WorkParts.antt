@@ -16,7 +16,6 @@ use Rattle.model.specs.declared.Operation.{Operation}
 use Rattle.model.specs.declared.Work.{Work}
 use Rattle.model.specs.declared.Work.the-variants.{Read, Program, Erase}
 use Rattle.model.specs.declared.Setup.{Setup}
-use Rattle.model.specs.declared.Controller.{Controller}
 use Rattle.model.proofs.Bool.{and-left, and-right}
 
 -- The operation, and how many of its words have moved.
@@ -60,38 +59,52 @@ queuedFits q (Read o k r) = isEmpty q
 queuedFits q (Program o k) = leb (k + q .len) (o .count)
 queuedFits q (Erase o k) = isEmpty q
 
-pub record WorkParts (c : Controller) (w : Work) : Type 0 where
+pub record WorkParts (s : Setup) (programs : Queue) (w : Work) : Type 0 where
   pub kind : kindFits w ≡ true
-  pub left : movedOf w < totalWords (c .setup .pages) (operationOf w)
-  pub asked : askedFits (c .setup) w ≡ true
-  pub readable : readableFits (c .setup) w ≡ true
-  pub queued : queuedFits (c .queues .programs) w ≡ true
+  pub left : movedOf w < totalWords (s .pages) (operationOf w)
+  pub asked : askedFits s w ≡ true
+  pub readable : readableFits s w ≡ true
+  pub queued : queuedFits programs w ≡ true
 
--- Work fits if each part does, whatever its kind.
-each-part : (c : Controller) (w : Work)
-    → workFits c w
-    ≡ (kindFits w
-    && (ltb (movedOf w) (totalWords (c .setup .pages) (operationOf w))
-    && (askedFits (c .setup) w && (readableFits (c .setup) w && queuedFits (c .queues .programs) w))))
-unfolding workFits
-each-part c (Read o k r) = refl
-each-part c (Program o k) = refl
-each-part c (Erase o k) = refl
+module _ (s : Setup) (programs : Queue) where
+  -- Work fits if each part does, whatever its kind.
+  each-part : (w : Work)
+      → workFits s programs w
+      ≡ (kindFits w
+      && (ltb (movedOf w) (totalWords (s .pages) (operationOf w))
+      && (askedFits s w && (readableFits s w && queuedFits programs w))))
+  unfolding workFits
+  each-part (Read o k r) = refl
+  each-part (Program o k) = refl
+  each-part (Erase o k) = refl
 
--- So work that fits has each part,
-pub work-parts : (c : Controller) (w : Work) → workFits c w ≡ true → WorkParts c w
-work-parts c w h =
-    let h₁ = and-right (kindFits w) _ (rw each-part at h) in
-    let h₂ = and-right (ltb (movedOf w) (totalWords (c .setup .pages) (operationOf w))) _ h₁ in
-    let h₃ = and-right (askedFits (c .setup) w) _ h₂ in
-    record {
-      kind = and-left (kindFits w) _ (rw each-part at h);
-      left = ltb-true _ _ (and-left (ltb (movedOf w) (totalWords (c .setup .pages) (operationOf w))) _ h₁);
-      asked = and-left (askedFits (c .setup) w) _ h₂;
-      readable = and-left (readableFits (c .setup) w) _ h₃;
-      queued = and-right (readableFits (c .setup) w) _ h₃;
-    }
+  -- So work that fits has each part,
+  pub work-parts : (w : Work) → workFits s programs w ≡ true → WorkParts s programs w
+  work-parts w h =
+      let h₁ = and-right (kindFits w) _ (rw each-part at h) in
+      let h₂ = and-right (ltb (movedOf w) (totalWords (s .pages) (operationOf w))) _ h₁ in
+      let h₃ = and-right (askedFits s w) _ h₂ in
+      record {
+        kind = and-left (kindFits w) _ (rw each-part at h);
+        left = ltb-true _ _ (and-left (ltb (movedOf w) (totalWords (s .pages) (operationOf w))) _ h₁);
+        asked = and-left (askedFits s w) _ h₂;
+        readable = and-left (readableFits s w) _ h₃;
+        queued = and-right (readableFits s w) _ h₃;
+      }
 
--- and work with each part fits.
-pub work-together : (c : Controller) (w : Work) → WorkParts c w → workFits c w ≡ true
-work-together c w p = rw (each-part, p .kind, lt-ltb (movedOf w) _ (p .left), p .asked, p .readable, p .queued)
+  -- and work with each part fits.
+  pub work-together : (w : Work) → WorkParts s programs w → workFits s programs w ≡ true
+  work-together w p = rw (each-part, p .kind, lt-ltb (movedOf w) _ (p .left), p .asked, p .readable, p .queued)
+
+-- Work that fits does so at another of its words and with other words queued, if the program queue fits it then.
+pub other-word : (s : Setup) (p q : Queue) (w : Work) (n : ℕ) → workFits s p w ≡ true → n < totalWords (s .pages) (operationOf w)
+    → queuedFits q (atWord w n) ≡ true → workFits s q (atWord w n) ≡ true
+other-word s p q (Read o k r) n h l e =
+    let w = work-parts s p (Read o k r) h in
+    work-together s q (Read o n r) (record { kind = w .kind; left = l; asked = w .asked; readable = w .readable; queued = e })
+other-word s p q (Program o k) n h l e =
+    let w = work-parts s p (Program o k) h in
+    work-together s q (Program o n) (record { kind = w .kind; left = l; asked = w .asked; readable = refl; queued = e })
+other-word s p q (Erase o k) n h l e =
+    let w = work-parts s p (Erase o k) h in
+    work-together s q (Erase o n) (record { kind = w .kind; left = l; asked = w .asked; readable = refl; queued = e })

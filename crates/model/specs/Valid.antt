@@ -15,11 +15,13 @@ use Rattle.model.specs.declared.Region.{Region}
 use Rattle.model.specs.declared.PageSetting.{PageSetting}
 use Rattle.model.specs.declared.Settings.{Settings}
 use Rattle.model.specs.declared.Errors.{Errors}
+use Rattle.model.specs.declared.Queue.{Queue}
 use Rattle.model.specs.declared.Queues.{Queues}
 use Rattle.model.specs.declared.Work.{Work}
 use Rattle.model.specs.declared.Work.the-variants.{Read, Program, Erase}
 use Rattle.model.specs.declared.Progress.{Progress}
 use Rattle.model.specs.declared.Progress.the-variants.{Idle, Running}
+use Rattle.model.specs.declared.Setup.{Setup}
 use Rattle.model.specs.declared.Controller.{Controller}
 
 -- A test that holds of each element.
@@ -68,27 +70,27 @@ progressFits ready p = ready || not (isBusy p)
 -- It has words left to move, and passes 5, 7, 8 and 9, save that a denied read is there as blank and no other read is.
 -- The program queue holds the words pushed and not yet moved, at most n pushed in all, and is empty with no program in
 -- progress.
-unfoldable pub workFits : Controller → Work → Bool
-workFits c (Read o moved readable) =
+unfoldable pub workFits : Setup → Queue → Work → Bool
+workFits s programs (Read o moved readable) =
     isRead o
-    && (ltb moved (totalWords (c .setup .pages) o)
-    && ((accepts (operationAnswer (c .setup) o) || isDenied (operationAnswer (c .setup) o))
-    && (eqb readable (readableWords (c .setup) o)
-    && isEmpty (c .queues .programs))))
-workFits c (Program o moved) =
+    && (ltb moved (totalWords (s .pages) o)
+    && ((accepts (operationAnswer s o) || isDenied (operationAnswer s o))
+    && (eqb readable (readableWords s o)
+    && isEmpty programs)))
+workFits s programs (Program o moved) =
     isProgram o
-    && (ltb moved (totalWords (c .setup .pages) o)
-    && (accepts (operationAnswer (c .setup) o)
-    && leb (moved + c .queues .programs .len) (o .count)))
-workFits c (Erase o moved) =
+    && (ltb moved (totalWords (s .pages) o)
+    && (accepts (operationAnswer s o)
+    && leb (moved + programs .len) (o .count)))
+workFits s programs (Erase o moved) =
     (isPageErase o || isBankErase o)
-    && (ltb moved (totalWords (c .setup .pages) o)
-    && (accepts (operationAnswer (c .setup) o)
-    && isEmpty (c .queues .programs)))
+    && (ltb moved (totalWords (s .pages) o)
+    && (accepts (operationAnswer s o)
+    && isEmpty programs))
 
-unfoldable pub runningFits : Controller → Progress → Bool
-runningFits c Idle = isEmpty (c .queues .programs)
-runningFits c (Running w) = workFits c w
+unfoldable pub runningFits : Setup → Queue → Progress → Bool
+runningFits s programs Idle = isEmpty programs
+runningFits s programs (Running w) = workFits s programs w
 
 -- A state is valid (01: ours) exactly if all of this holds.
 unfoldable pub valid : Controller → Bool
@@ -98,7 +100,7 @@ valid c =
     && (errorsFit (c .errors)
     && (queuesFit (isReady (c .phase)) (c .queues)
     && (progressFits (isReady (c .phase)) (c .progress)
-    && runningFits c (c .progress)))))
+    && runningFits (c .setup) (c .queues .programs) (c .progress)))))
 
 -- Check 1 of a call that is lent the flash: the state is valid, and the flash fits its D.
 unfoldable pub validWith : Controller → Flash → Bool

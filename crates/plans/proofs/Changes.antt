@@ -65,7 +65,7 @@ module _ (c : Controller) (f : Flash) (o : Operation) (b : List ℕ) where
         programs ok p
         (by-plan (Programs (placesOf (c .setup .pages) o)) (rw (free, room, ok, r, p)) ∙ sym (stored-firsts o (programming b) f (c .setup .pages) _)))
         (λ p.
-        erases ok (work-parts c (Erase o 0) (erase-begun c f o b free room (rw ok) r p .work) .kind)
+        erases ok (work-parts _ _ (Erase o 0) (erase-begun c f o b free room (rw ok) r p .work) .kind)
         (by-plan (Erases (placesOf (c .setup .pages) o)) (rw (free, room, ok, r, p)) ∙ sym (stored-firsts o erasing f (c .setup .pages) _))))
 
   pub whole-changes : WholeChanges c f o b

@@ -71,7 +71,7 @@ module _ (c : Controller) (es : Errors) (o : Operation) (f : Flash) (readable : 
     pub read-pushing : (v : ℕ) → ReadDriven c es o f readable (pushing v r)
     unfolding readSeen
     read-pushing v =
-        let kind = eqb-true (o .kind) 0 (work-parts c (Read o 0 readable) (b .work) .kind) in
+        let kind = eqb-true (o .kind) 0 (work-parts _ _ (Read o 0 readable) (b .work) .kind) in
         rw (pushes-same b fits f [] (h .taken) 0 r (h .is) (rw kind) v) h
 
     -- after a pop, which takes the oldest word if there is one,

@@ -33,7 +33,7 @@ use Rattle.plans.proofs.Firsts.{readWord}
 -- A program moves as many words as it counts.
 pub program-words : {c : Controller} {es : Errors} {o : Operation} → Begun c es (Program o 0) → totalWords (c .setup .pages) o ≡ o .count
 program-words {c = c} {o = o} b =
-    let kind = eqb-true (o .kind) 1 (work-parts c (Program o 0) (b .work) .kind) in moving-words (c .setup .pages) o (omega arith)
+    let kind = eqb-true (o .kind) 1 (work-parts _ _ (Program o 0) (b .work) .kind) in moving-words (c .setup .pages) o (omega arith)
 
 -- ---- the queues
 

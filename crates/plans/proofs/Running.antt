@@ -31,9 +31,8 @@ use Rattle.model.specs.declared.Answer.the-variants.{Accepted, QueueEmpty, Unex
 use Rattle.model.proofs.Bool.{which}
 use Rattle.model.proofs.Places.{moving-words}
 use Rattle.model.proofs.Answers.{ready-accepts}
-use Rattle.model.proofs.Valid.{valid-parts}
-use Rattle.model.proofs.WorkParts.{operationOf, atWord, queuedFits, WorkParts, work-parts}
-use Rattle.model.proofs.SameChecks.{changed, same-work}
+use Rattle.model.proofs.Valid.{changed, valid-parts}
+use Rattle.model.proofs.WorkParts.{operationOf, atWord, queuedFits, WorkParts, work-parts, other-word}
 use Rattle.model.proofs.Accepting.{step-idle, step-stalled, step-advances, push-refused, push-accepted}
 use Rattle.model.proofs.Free.{Free, free-start}
 
@@ -59,7 +58,7 @@ recordedBy c o = recorded (operationAnswer (c .setup) o) (o .address) (c .errors
 pub record Begun (c : Controller) (es : Errors) (w : Work) : Type 0 where
   pub free : Free c
   pub errors : errorsFit es ≡ true
-  pub work : workFits c w ≡ true
+  pub work : workFits (c .setup) (c .queues .programs) w ≡ true
 
 -- the queues that can be there after k words.
 pub record Queued (c : Controller) (w : Work) (k : ℕ) (q : Queues) : Type 0 where
@@ -69,7 +68,7 @@ pub record Queued (c : Controller) (w : Work) (k : ℕ) (q : Queues) : Type 0 wh
   pub queued : queuedFits (q .programs) (atWord w k) ≡ true
 
 -- After the last word no word is left to program.
-all-moved : (c : Controller) (w : Work) (q : Queue) → WorkParts c w → queuedFits q (atWord w (wordsOf c w)) ≡ true → isEmpty q ≡ true
+all-moved : (c : Controller) (w : Work) (q : Queue) → WorkParts (c .setup) (c .queues .programs) w → queuedFits q (atWord w (wordsOf c w)) ≡ true → isEmpty q ≡ true
 all-moved c (Read o k r) q p h = h
 all-moved c (Program o k) q p h =
     let n = moving-words (c .setup .pages) o (omega (arith, eqb-true (o .kind) 1 (p .kind))) in
@@ -101,14 +100,14 @@ idle-all c es w k q h =
 
 module _ {c : Controller} {es : Errors} {w : Work} {k : ℕ} {q : Queues} (b : Begun c es w) (h : Queued c w k q) where
   -- What is in progress fits,
-  running-at : runningFits (stateAt c es w k q) (progressAt w (wordsOf c w) k) ≡ true
-  unfolding stateAt runningFits
+  running-at : runningFits (c .setup) (q .programs) (progressAt w (wordsOf c w) k) ≡ true
+  unfolding runningFits
   running-at =
       ⊎-elim (λ e.
       let l : queuedFits (q .programs) (atWord w (wordsOf c w)) ≡ true = rw (eqb-true k (wordsOf c w) e) at (h .queued) in
-      rw e (all-moved c w (q .programs) (work-parts c w (b .work)) l))
+      rw e (all-moved c w (q .programs) (work-parts _ _ w (b .work)) l))
       (λ e.
-      rw e (same-work c (c .phase) _ q _ w k (b .work) (omega (arith, h .upto, eqb-false k (wordsOf c w) e)) (h .queued)))
+      rw e (other-word _ _ (q .programs) w k (b .work) (omega (arith, h .upto, eqb-false k (wordsOf c w) e)) (h .queued)))
       (which (eqb k (wordsOf c w)))
 
   -- and so does the rest.
@@ -180,7 +179,7 @@ module _ {c : Controller} {es : Errors} {w : Work} {k : ℕ} {q : Queues} (b : B
 -- ---- push
 
 -- Check 12 refuses it unless what is in progress is a program.
-unexpected : (c x : Controller) (w : Work) (n k : ℕ) → isProgram (operationOf w) ≡ false → WorkParts c w
+unexpected : (c x : Controller) (w : Work) (n k : ℕ) → isProgram (operationOf w) ≡ false → WorkParts (c .setup) (c .queues .programs) w
     → pushAnswer x (progressAt w n k) ≡ Unexpected
 unfolding pushAnswer
 unexpected c x (Read o i r) n k e p = ⊎-elim (λ t. rw t) (λ t. rw t) (which (eqb k n))
@@ -203,4 +202,4 @@ module _ {c : Controller} {es : Errors} {w : Work} {k : ℕ} {q : Queues} (b : B
   -- and it is always refused if there is no program.
   pub pushes-unexpected : isProgram (operationOf w) ≡ false → push (stateAt c es w k q) v ≡ refusedOutcome (stateAt c es w k q) Unexpected
   pushes-unexpected e =
-      pushes-refused Unexpected refl (unexpected c (stateAt c es w k q) w (wordsOf c w) k e (work-parts c w (b .work)))
+      pushes-refused Unexpected refl (unexpected c (stateAt c es w k q) w (wordsOf c w) k e (work-parts _ _ w (b .work)))

@@ -94,11 +94,10 @@ unfolding perform stepProgress
 moves-or-waits s w shaped h e =
     let go = busy-steps (s .controller) (s .flash) w h e in
     let some = busy-moves (s .controller) (s .flash) w h e in
-    let words = ap (leftOf (s .controller .setup .pages)) e in
-    record {
-      moves = λ t. rw (go, t) (ap numberOf (advance-accepts (s .controller) (s .flash) w), some .left ∙ sym words);
-      waits = λ t. rw (go, t) (refl, refl, refl);
-    }
+    let words = ap (leftOf (s .controller .setup .pages)) e in (
+      λ t. rw (go, t) (ap numberOf (advance-accepts (s .controller) (s .flash) w), some .left ∙ sym words),
+      λ t. rw (go, t) (refl, refl, refl),
+    )
 
 -- ---- steps, pushes and pops
 

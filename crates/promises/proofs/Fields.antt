@@ -16,11 +16,11 @@ use Rattle.model.specs.declared.Queue.{Queue}
 use Rattle.model.specs.declared.Queues.{Queues}
 use Rattle.model.specs.declared.Progress.{Progress}
 use Rattle.model.specs.declared.Progress.the-variants.{Idle, Running}
+use Rattle.model.specs.declared.Setup.{Setup}
 use Rattle.model.specs.declared.Answer.{Answer}
 use Rattle.model.specs.declared.Controller.{Controller}
 use Rattle.model.proofs.Bool.{and-left, and-right, by-test}
-use Rattle.model.proofs.Valid.{valid-parts}
-use Rattle.model.proofs.SameChecks.{changed}
+use Rattle.model.proofs.Valid.{changed, valid-parts}
 use Rattle.promises.specs.Calls.{Shaped}
 
 -- Settings with the arrays' places and values in their bounds.
@@ -46,7 +46,7 @@ pub record Valid (c : Controller) : Type 0 where
   pub programs : ValidQueue (c .queues .programs)
   pub closed : (isReady (c .phase) || bothEmpty (c .queues)) ≡ true
   pub progress : progressFits (isReady (c .phase)) (c .progress) ≡ true
-  pub running : runningFits c (c .progress) ≡ true
+  pub running : runningFits (c .setup) (c .queues .programs) (c .progress) ≡ true
 
 module _ (c : Controller) where
   -- A valid state has each part,
@@ -100,7 +100,7 @@ module _ (c : Controller) where
 
 -- A ready controller is valid again if its errors, its queues and what is in progress fit.
 pub ready-keeps : (c : Controller) (ph : Phase) (e : Errors) (q : Queues) (p : Progress) → Valid c → isReady ph ≡ true
-    → errorsFit e ≡ true → ValidQueue (q .reads) → ValidQueue (q .programs) → runningFits (changed c ph e q p) p ≡ true
+    → errorsFit e ≡ true → ValidQueue (q .reads) → ValidQueue (q .programs) → runningFits (c .setup) (q .programs) p ≡ true
     → Valid (changed c ph e q p)
 ready-keeps c ph e q p v r f qr qp w = record {
   pages = v .pages;
@@ -119,15 +119,15 @@ pub settle-keeps : (c next : Controller) (a : Answer) → Valid c → (accepts a
 settle-keeps c next a v f = by-test (accepts a) (λ e. rw e (f e)) (λ e. rw e v)
 
 -- With nothing in progress the program queue is empty,
-pub idle-empty : (c : Controller) (p : Progress) → isBusy p ≡ false → runningFits c p ≡ true
-    → isEmpty (c .queues .programs) ≡ true
+pub idle-empty : (s : Setup) (programs : Queue) (p : Progress) → isBusy p ≡ false → runningFits s programs p ≡ true
+    → isEmpty programs ≡ true
 unfolding runningFits
-idle-empty c Idle b h = h
-idle-empty c (Running w) b h = absurd (true≢false b)
+idle-empty s programs Idle b h = h
+idle-empty s programs (Running w) b h = absurd (true≢false b)
 
 -- and nothing else is asked of it.
-pub empty-idle : (c : Controller) (p : Progress) → isBusy p ≡ false → isEmpty (c .queues .programs) ≡ true
-    → runningFits c p ≡ true
+pub empty-idle : (s : Setup) (programs : Queue) (p : Progress) → isBusy p ≡ false → isEmpty programs ≡ true
+    → runningFits s programs p ≡ true
 unfolding runningFits
-empty-idle c Idle b h = h
-empty-idle c (Running w) b h = absurd (true≢false b)
+empty-idle s programs Idle b h = h
+empty-idle s programs (Running w) b h = absurd (true≢false b)

@@ -16,7 +16,6 @@ use Rattle.model.specs.declared.Phase.the-variants as phase
 use Rattle.model.specs.declared.Controller.{Controller}
 use Rattle.model.specs.declared.Answer.the-variants.{Invalid, Disabled, Busy}
 use Rattle.model.proofs.Answers.{both-accept, check-passed}
-use Rattle.model.proofs.SameChecks.{same-running}
 use Rattle.promises.proofs.Fields.{Valid, ValidQueue, ready-keeps, settle-keeps, empty-idle}
 
 -- An empty queue has 16 places and holds no words.
@@ -56,8 +55,7 @@ module _ (c : Controller) (v : Valid c) where
   pub initialise-keeps : (f : Flash) → Valid (initialise c f .controller)
   unfolding initialise
   initialise-keeps f = settle-keeps c (withPhase c phase.Ready) (initialiseAnswer c f) v λ h.
-      ready-keeps c phase.Ready (c .errors) (c .queues) (c .progress) v refl (v .errors) (v .reads) (v .programs)
-      (same-running c phase.Ready (c .errors) (c .queues) (c .progress) (c .progress) refl (v .running))
+      ready-keeps c phase.Ready (c .errors) (c .queues) (c .progress) v refl (v .errors) (v .reads) (v .programs) (v .running)
 
   -- RMA,
   pub rma-keeps : (f : Flash) → Valid (rma c f .result .controller)
@@ -74,7 +72,7 @@ module _ (c : Controller) (v : Valid c) where
         programs = empty-queue;
         closed = refl;
         progress = rw idle;
-        running = empty-idle (rmaController c) (c .progress) idle refl;
+        running = empty-idle (c .setup) (rmaController c .queues .programs) (c .progress) idle refl;
       }
 
   -- and clear.
@@ -88,5 +86,5 @@ module _ (c : Controller) (v : Valid c) where
     programs = v .programs;
     closed = v .closed;
     progress = v .progress;
-    running = same-running c (c .phase) noErrors (c .queues) (c .progress) (c .progress) refl (v .running);
+    running = v .running;
   }

@@ -18,8 +18,7 @@ use Rattle.model.specs.declared.Controller.{Controller}
 use Rattle.model.specs.declared.Answer.the-variants.{Invalid, QueueEmpty}
 use Rattle.model.proofs.QueueLaws.{push-adds-one, push-keeps-its-places, pop-takes-one, pop-keeps-its-places}
 use Rattle.model.proofs.Answers.{both-accept, check-passed, ready-passed}
-use Rattle.model.proofs.WorkParts.{work-parts}
-use Rattle.model.proofs.SameChecks.{same-work, same-running}
+use Rattle.model.proofs.WorkParts.{work-parts, other-word}
 use Rattle.model.proofs.Accepting.{push-passed}
 use Rattle.promises.proofs.Fields.{Valid, ValidQueue, ready-keeps, settle-keeps}
 
@@ -40,8 +39,8 @@ popped-valid q v = record {
 -- The program queue has room for a word, and what is in progress fits with one more queued.
 pub record Pushable (c : Controller) (p : Progress) : Type 0 where
   pub room : c .queues .programs .len < 16
-  pub fits : (q : Queues) → q .programs .len ≡ c .queues .programs .len + 1 → runningFits c p ≡ true
-      → runningFits (withQueues c q) p ≡ true
+  pub fits : (q : Queue) → q .len ≡ c .queues .programs .len + 1 → runningFits (c .setup) (c .queues .programs) p ≡ true
+      → runningFits (c .setup) q p ≡ true
 
 -- So it is where a push is accepted: it belongs to a program that has words left to push.
 pub pushable : (c : Controller) (p : Progress) → accepts (pushAnswer c p) ≡ true → Pushable c p
@@ -53,8 +52,8 @@ pushable c (Running (Program o k)) h =
     record {
       room = room;
       fits = λ q e f.
-          same-work c (c .phase) (c .errors) q (c .progress) (Program o k) k f (work-parts c (Program o k) f .left)
-          (le-leb (k + q .programs .len) (o .count) (omega arith));
+          other-word (c .setup) (c .queues .programs) q (Program o k) k f (work-parts _ _ (Program o k) f .left)
+          (le-leb (k + q .len) (o .count) (omega arith));
     }
 pushable c (Running (Erase o k)) h = absurd (true≢false (sym h))
 
@@ -81,6 +80,4 @@ module _ (c : Controller) (v : Valid c) where
       let some : isEmpty (c .queues .reads) ≡ false = check-passed _ QueueEmpty refl b in
       let ready : isReady (c .phase) ≡ true = sym (or-false (isReady (c .phase))) ∙ (rw some at (v .closed)) in
       ready-keeps c (c .phase) (c .errors) (withReads (c .queues) (popped (c .queues .reads))) (c .progress) v
-      ready (v .errors) (popped-valid (c .queues .reads) (v .reads)) (v .programs)
-      (same-running c (c .phase) (c .errors) (withReads (c .queues) (popped (c .queues .reads))) (c .progress) (c .progress)
-      refl (v .running))
+      ready (v .errors) (popped-valid (c .queues .reads) (v .reads)) (v .programs) (v .running)

@@ -14,16 +14,15 @@ use Rattle.model.specs.declared.Answer.the-variants.{Busy}
 use Rattle.model.proofs.Bool.{by-test}
 use Rattle.model.proofs.Order.{pages-bound}
 use Rattle.model.proofs.Answers.{both-accept, check-passed, ready-passed}
-use Rattle.model.proofs.SameChecks.{same-running}
 use Rattle.model.proofs.Starting.{recorded-fits, work-starts}
 use Rattle.promises.proofs.Fields.{Valid, together, ready-keeps, idle-empty}
 
 -- What is in progress after a start with nothing in progress fits.
 progress-after : (c : Controller) (o : Operation) → Valid c → isBusy (c .progress) ≡ false
-    → runningFits c (progressAfter c o (operationAnswer (c .setup) o)) ≡ true
+    → runningFits (c .setup) (c .queues .programs) (progressAfter c o (operationAnswer (c .setup) o)) ≡ true
 unfolding runningFits
 progress-after c o v idle =
-    let empty = idle-empty c (c .progress) idle (v .running) in
+    let empty = idle-empty (c .setup) (c .queues .programs) (c .progress) idle (v .running) in
     let d = pages-bound c (together c v .1) .0 in
     by-test (starts o (operationAnswer (c .setup) o)) (λ s. rw s (work-starts c o d empty s)) (λ s. rw s (v .running))
 
@@ -39,5 +38,4 @@ start-keeps c o v = by-test (accepts (startAnswer c)) (λ a. rw a (begun a)) (λ
         let p : Progress = progressAfter c o (operationAnswer (c .setup) o) in
         ready-keeps c (c .phase) e (c .queues) p v (ready-passed (valid c) (c .phase) r)
         (recorded-fits (operationAnswer (c .setup) o) (o .address) (c .errors) (v .errors)) (v .reads) (v .programs)
-        (same-running c (c .phase) e (c .queues) p p refl
-        (progress-after c o v (check-passed (isBusy (c .progress)) Busy refl b)))
+        (progress-after c o v (check-passed (isBusy (c .progress)) Busy refl b))

@@ -56,13 +56,11 @@ ExactlyItsWords =
     → counted (wordsLeft (s .controller)) (replies s ks) ≡ true
 
 -- A step moves whenever the read queue has room, or the program queue a word; an erase always. A waiting step changes nothing.
-pub record StepMoves (s : State) (w : Work) : Type 0 where
-  pub moves : stalls (s .controller .queues) w ≡ false
-      → (perform s Step .reply .answer ≡ 0) × (wordsLeft (perform s Step .state .controller) + 1 ≡ wordsLeft (s .controller))
-  pub waits : stalls (s .controller .queues) w ≡ true
-      → (perform s Step .state ≡ s) × (perform s Step .reply .answer ≡ 0) × (perform s Step .reply .movement ≡ Stalled)
-
 abbrev pub MovesOrWaits : Type 0
 MovesOrWaits =
     (s : State) (w : Work) → Shaped (s .controller) → validWith (s .controller) (s .flash) ≡ true
-    → s .controller .progress ≡ Running w → StepMoves s w
+    → s .controller .progress ≡ Running w
+    → (stalls (s .controller .queues) w ≡ false
+    → (perform s Step .reply .answer ≡ 0) × (wordsLeft (perform s Step .state .controller) + 1 ≡ wordsLeft (s .controller)))
+    × (stalls (s .controller .queues) w ≡ true
+    → (perform s Step .state ≡ s) × (perform s Step .reply .answer ≡ 0) × (perform s Step .reply .movement ≡ Stalled))

@@ -22,7 +22,7 @@ use Rattle.model.specs.declared.Controller.{Controller}
 use Rattle.model.specs.declared.Answer.{Answer}
 use Rattle.model.proofs.Bool.{by-test}
 use Rattle.plans.specs.Plan.{Plan, Refused, Recorded, Blank, Reads, Programs, Erases, placesFrom, placesOf, planStarted, planAnswered, planOf, performed}
-use Rattle.shuffles.specs.Shuffle.{Job, State, Given, after, given, hasOne, readsPage, changesPage, touchesPage, planAt, Footprints, WhereInvalid}
+use Rattle.shuffles.specs.Shuffle.{Job, State, Given, after, given, hasOne, readsPage, changesPage, touchesPage, planAt, RightPages, Footprints, WhereInvalid}
 use Rattle.shuffles.proofs.Demand3.{given-is}
 
 -- ---- the pages of an operation's words
@@ -90,23 +90,28 @@ started-changes d o q =
     by-test (isRead o) (λ e. rw e) (λ e. by-test (isProgram o) (λ t. rw (e, t)) (λ t. rw (e, t)))
 
 -- The pages are the right ones.
-pub footprints : Footprints
-unfolding placesOf
-footprints s j q = record {
-  refused = λ h. refused-none (s .controller) (s .flash) (j .operation) (j .buffer) (planAt s j) q (λ e. h (told ∙ e));
-  reads = λ h. rw (started h) (started-reads (s .controller .setup .pages) (j .operation) q);
-  changes = λ h. rw (started h) (started-changes (s .controller .setup .pages) (j .operation) q);
-  each = λ k l e. has-each (s .controller .setup .pages) (j .operation) q 0 (totalWords (s .controller .setup .pages) (j .operation)) k l (rw zero-add e);
-  only = λ h.
-      let (k, l, e) = has-only (s .controller .setup .pages) (j .operation) q 0 (totalWords (s .controller .setup .pages) (j .operation)) h in
-      (k, l, rw zero-add at e);
-}
-  where
-    told : given s j .answer ≡ numberOf (performed (s .controller) (s .flash) (j .operation) (j .buffer) (planAt s j) .result .answer)
-    told = ap (λ (g : Given). g .answer) (given-is s j)
+module _ (s : State) (j : Job) (q : ImagePage) where
+  told : given s j .answer ≡ numberOf (performed (s .controller) (s .flash) (j .operation) (j .buffer) (planAt s j) .result .answer)
+  told = ap (λ (g : Given). g .answer) (given-is s j)
 
-    started : given s j .answer ≡ 0 → planAt s j ≡ planStarted (s .controller .setup .pages) (j .operation)
-    started h = accepted-started (s .controller) (s .flash) (j .operation) (j .buffer) (sym told ∙ h)
+  started : given s j .answer ≡ 0 → planAt s j ≡ planStarted (s .controller .setup .pages) (j .operation)
+  started h = accepted-started (s .controller) (s .flash) (j .operation) (j .buffer) (sym told ∙ h)
+
+  right-pages : RightPages s j q
+  unfolding placesOf
+  right-pages =
+      let d : ℕ = s .controller .setup .pages in
+      let o = j .operation in
+      record {
+        refused = λ h. refused-none (s .controller) (s .flash) o (j .buffer) (planAt s j) q (λ e. h (told ∙ e));
+        reads = λ h. rw (started h) (started-reads d o q);
+        changes = λ h. rw (started h) (started-changes d o q);
+        each = λ k l e. has-each d o q 0 (totalWords d o) k l (rw zero-add e);
+        only = λ h. let (k, l, e) = has-only d o q 0 (totalWords d o) h in (k, l, rw zero-add at e);
+      }
+
+pub footprints : Footprints
+footprints = right-pages
 
 -- ---- the places that plans touch and change
 

@@ -6,6 +6,8 @@ ghost use Rattle.model.specs.State.{flash};
 ghost use Rattle.model.specs.Valid.{progressFits, workFits, runningFits, valid, validWith};
 use model::Controller;
 use model::Progress;
+use model::Queue;
+use model::Setup;
 use model::Work;
 
 // ---- what is in progress
@@ -24,11 +26,10 @@ fn pushed_fits(moved: u32, queued: u32, count: u32) -> bool
     moved as usize + queued as usize <= count as usize
 }
 
-fn work_fits(c: Controller, w: Work) -> bool
-    ensures { λ r. ⌜ r ≡ workFits c w ⌝ }
+fn work_fits(setup: Setup, programs: Queue, w: Work) -> bool
+    ensures { λ r. ⌜ r ≡ workFits setup programs w ⌝ }
 {
-    let setup = c.setup;
-    let queued = c.queues.programs.len;
+    let queued = programs.len;
     let none = queued == 0;
     match w {
         Work::Read {
@@ -61,12 +62,12 @@ fn work_fits(c: Controller, w: Work) -> bool
     }
 }
 
-fn running_fits(c: Controller, p: Progress) -> bool
-    ensures { λ r. ⌜ r ≡ runningFits c p ⌝ }
+fn running_fits(setup: Setup, programs: Queue, p: Progress) -> bool
+    ensures { λ r. ⌜ r ≡ runningFits setup programs p ⌝ }
 {
     match p {
-        Progress::Idle => c.queues.programs.len == 0,
-        Progress::Running(w) => work_fits(c, w),
+        Progress::Idle => programs.len == 0,
+        Progress::Running(w) => work_fits(setup, programs, w),
     }
 }
 
@@ -79,6 +80,7 @@ pub fn valid(c: Controller) -> bool
     let settings = setup.settings;
     let errors = c.errors;
     let queues = c.queues;
+    let programs = queues.programs;
     let progress = c.progress;
     let phase = c.phase;
     let ready = state::is_ready(phase);
@@ -87,7 +89,7 @@ pub fn valid(c: Controller) -> bool
     let told = bounds::errors_fit(errors);
     let queued = bounds::queues_fit(ready, queues);
     let held = progress_fits(ready, progress);
-    let running = running_fits(c, progress);
+    let running = running_fits(setup, programs, progress);
     pages & (set & (told & (queued & (held & running))))
 }
 
