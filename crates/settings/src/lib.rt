@@ -46,11 +46,8 @@ pub fn set_region(c: Controller, number: u32, g: Region) -> Outcome
     let setup = c.setup;
     let settings = setup.settings;
     let fits = bounds::region_fits(setup.pages, g);
-    configured(
-        c,
-        tables::with_region(settings, number as usize, g),
-        (number < 8) & fits,
-    )
+    let next = tables::with_region(settings, number as usize, g);
+    configured(c, next, (number < 8) & fits)
 }
 
 // The rights of the data pages that no region decides.
@@ -59,11 +56,8 @@ pub fn set_default(c: Controller, rights: u8) -> Outcome
 {
     let setup = c.setup;
     let settings = setup.settings;
-    configured(
-        c,
-        tables::with_default(settings, rights),
-        bounds::rights_fit(rights),
-    )
+    let next = tables::with_default(settings, rights);
+    configured(c, next, bounds::rights_fit(rights))
 }
 
 // An information page, by its bank, its type and its number in the type.
@@ -75,7 +69,8 @@ pub fn set_info(c: Controller, bank: u32, t: u8, page: u32, p: PageSetting) -> O
     let exists = tables::info_exists(bank, t, page);
     let fits = bounds::page_fits(p);
     let index = geometry::info_index(bank, t, page);
-    configured(c, tables::with_page(settings, index, p), exists & fits)
+    let next = tables::with_page(settings, index, p);
+    configured(c, next, exists & fits)
 }
 
 // A bank's erase permission.
@@ -84,7 +79,8 @@ pub fn set_erase(c: Controller, bank: u32, on: bool) -> Outcome
 {
     let setup = c.setup;
     let settings = setup.settings;
-    configured(c, tables::with_erase(settings, bank as usize, on), bank < 2)
+    let next = tables::with_erase(settings, bank as usize, on);
+    configured(c, next, bank < 2)
 }
 
 // Clears the error record: the kinds and the last address.
