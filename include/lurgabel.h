@@ -2,9 +2,10 @@
  * Lurgabel: a machine-proved model of the OpenTitan flash protocol controller and its flash.
  *
  * A bench holds two things: a lurgabel_controller, which is plain data, and the image of the flash, an array of
- * LURGABEL_IMAGE_WORDS(D) bus words. Every call takes any controller, also a broken one, and any image length, and
- * answers; it never traps. A refusal gives its number (lurgabel_answer), otherwise a word of 0, a bit count of 0 and no
- * seeds, and leaves the controller field for field as it was, unless the table at lurgabel_answer says 'recorded'.
+ * LURGABEL_IMAGE_WORDS(D) bus words. Both are lent to a call and changed where they lie. Every call takes any
+ * controller, also a broken one, and any image length, and answers; it never traps. A refusal gives its number
+ * (lurgabel_answer), otherwise a word of 0, a bit count of 0 and no seeds, and leaves every number of the controller as
+ * it was, unless the table at lurgabel_answer says 'recorded'.
  *
  * The calls are proved against the definitions in crates/model/specs, for every input. What is not proved is the
  * boundary itself (this header); its tests are in tests/ and reference/.
@@ -21,6 +22,10 @@
 #ifdef __cplusplus
 extern "C" {
 #endif
+
+/* Raised whenever lurgabel_controller or a function of the library changes. The library's names carry it, so that a
+ * library that does not fit this header does not link. */
+#define LURGABEL_LAYOUT 2
 
 /* ---- geometry ------------------------------------------------------------------------------------------------- */
 
@@ -51,7 +56,7 @@ extern "C" {
 
 /* ---- what is asked -------------------------------------------------------------------------------------------- */
 
-/* Kinds of operation; 4 to 255 are none. */
+/* Kinds of operation; all other numbers are none. */
 #define LURGABEL_READ 0u
 #define LURGABEL_PROGRAM 1u
 #define LURGABEL_PAGE_ERASE 2u
@@ -67,12 +72,13 @@ extern "C" {
 #define LURGABEL_CAN_ERASE 4u
 #define LURGABEL_ALL_RIGHTS 7u
 
+/* As an argument, a kind, partition or info_type over 255 counts as 255. */
 typedef struct lurgabel_operation {
-    uint32_t address;   /* byte address: bank x D x 1,024 + page x 1,024 + offset, for information pages too */
-    uint32_t count;     /* n bus words of a read or program, 1 to 1,024; an erase ignores it */
-    uint8_t kind;       /* LURGABEL_READ .. */
-    uint8_t partition;  /* LURGABEL_DATA or LURGABEL_INFORMATION */
-    uint8_t info_type;  /* 0 to 2; data operations and bank erases ignore it */
+    uint32_t address;    /* byte address: bank x D x 1,024 + page x 1,024 + offset, for information pages too */
+    uint32_t count;      /* n bus words of a read or program, 1 to 1,024; an erase ignores it */
+    uint32_t kind;       /* LURGABEL_READ .. */
+    uint32_t partition;  /* LURGABEL_DATA or LURGABEL_INFORMATION */
+    uint32_t info_type;  /* 0 to 2; data operations and bank erases ignore it */
 } lurgabel_operation;
 
 /* ---- what is answered ----------------------------------------------------------------------------------------- */
@@ -96,7 +102,8 @@ typedef enum lurgabel_answer {
 } lurgabel_answer;
 
 /* 'Recorded': the refusal's bit joins lurgabel_controller.recorded, the operation's address becomes last_address, and
- * nothing else changes, save that a denied read starts. Host reads and views record nothing. */
+ * nothing else changes, save that a denied read starts, or runs if it is a whole one. Host reads and views record
+ * nothing. */
 
 static inline const char *lurgabel_answer_text(lurgabel_answer answer) {
     switch (answer) {
@@ -128,23 +135,25 @@ typedef enum lurgabel_movement {
 
 /* ---- the controller's state ----------------------------------------------------------------------------------- */
 
+/* Every field is a uint32_t, so that the state is an array of LURGABEL_NUMBERS numbers without padding. */
+
 /* A memory protection region over data pages 0 to 2D - 1, both banks together. The lowest-numbered region that is on
  * and holds a page decides alone; if there is none, default_rights does. */
 typedef struct lurgabel_region {
     uint32_t first_page;
     uint32_t page_count;  /* first_page + page_count is at most 2D, also where the region is off */
-    uint8_t on;           /* 0 or 1 */
-    uint8_t rights;       /* 0 to 7 */
+    uint32_t on;          /* 0 or 1 */
+    uint32_t rights;      /* 0 to 7 */
 } lurgabel_region;
 
 /* The setting of one information page; switched off, it denies everything. */
 typedef struct lurgabel_page_setting {
-    uint8_t on;      /* 0 or 1 */
-    uint8_t rights;  /* 0 to 7 */
+    uint32_t on;      /* 0 or 1 */
+    uint32_t rights;  /* 0 to 7 */
 } lurgabel_page_setting;
 
 /* The words that a queue holds are the first `length` of `words`, oldest first. No rule looks at the places after
- * them, and an accepted call that changes the queue leaves zeros there. */
+ * them. A call that changes the queue leaves zeros there, as does a whole read or program in the queue that it uses. */
 typedef struct lurgabel_queue {
     uint32_t words[16];
     uint32_t length;  /* 0 to 16 */
@@ -156,7 +165,7 @@ typedef struct lurgabel_progress {
     lurgabel_operation operation;  /* as it was started; its kind is 0 to 3 */
     uint32_t moved;                /* words moved so far: fewer than the operation has */
     uint32_t readable;             /* of a read: its count, or 0 if the read is denied and delivers ones */
-    uint8_t running;               /* 0 or 1 */
+    uint32_t running;              /* 0 or 1 */
 } lurgabel_progress;
 
 /* Phases. */
@@ -168,18 +177,18 @@ typedef struct lurgabel_progress {
 #define LURGABEL_RECORDED(answer) (1u << (answer))
 
 /* The whole state, as plain data that a bench may read, copy, compare and write. Whatever stands in it, every call
- * answers; what encodes no state of the controller (a flag of 7, a phase of 9, another bit in `recorded`, a running
- * operation of kind 4 or more) is refused with LURGABEL_INVALID, as is a state that the controller cannot be in.
- * Only lurgabel_reset takes any state. */
+ * answers; what encodes no state of the controller (a flag of 7, a phase of 9, rights of 256, another bit in
+ * `recorded`, a running operation of kind 4 or more or with an info_type of 256) is refused with LURGABEL_INVALID, as
+ * is a state that the controller cannot be in. Only lurgabel_reset takes any state. */
 typedef struct lurgabel_controller {
     uint32_t data_pages;                  /* D, the data pages in each bank: 10 to 256 */
-    uint8_t phase;                        /* LURGABEL_PHASE_.. */
-    uint8_t provision_enabled;            /* life-cycle input: 0 or 1 */
-    uint8_t seeds_locked;                 /* life-cycle input: 0 or 1 */
-    uint8_t default_rights;               /* of data pages that no region decides: 0 to 7 */
+    uint32_t phase;                       /* LURGABEL_PHASE_.. */
+    uint32_t provision_enabled;           /* life-cycle input: 0 or 1 */
+    uint32_t seeds_locked;                /* life-cycle input: 0 or 1 */
+    uint32_t default_rights;              /* of data pages that no region decides: 0 to 7 */
     lurgabel_region regions[8];
     lurgabel_page_setting info_pages[26]; /* at LURGABEL_INFO_INDEX(bank, type, page) */
-    uint8_t bank_erase[2];                /* whether a bank may be erased: 0 or 1 */
+    uint32_t bank_erase[2];               /* whether a bank may be erased: 0 or 1 */
     lurgabel_progress progress;           /* only when ready */
     lurgabel_queue read_queue;            /* empty unless ready */
     lurgabel_queue program_queue;         /* words pushed and not yet moved; empty unless a program is in progress */
@@ -187,43 +196,56 @@ typedef struct lurgabel_controller {
     uint32_t last_address;                /* of the last recorded error; 0 if no kind is recorded */
 } lurgabel_controller;
 
+#define LURGABEL_NUMBERS 135u
+
+/* The library goes by the number of each field: a place that is another here does not compile. */
+#define LURGABEL_AT(name, field, number) \
+    typedef char lurgabel_at_##name[offsetof(lurgabel_controller, field) == 4u * (number) ? 1 : -1]
+LURGABEL_AT(data_pages, data_pages, 0);
+LURGABEL_AT(phase, phase, 1);
+LURGABEL_AT(provision_enabled, provision_enabled, 2);
+LURGABEL_AT(seeds_locked, seeds_locked, 3);
+LURGABEL_AT(default_rights, default_rights, 4);
+LURGABEL_AT(regions, regions, 5);
+LURGABEL_AT(info_pages, info_pages, 37);
+LURGABEL_AT(bank_erase, bank_erase, 89);
+LURGABEL_AT(progress, progress, 91);
+LURGABEL_AT(moved, progress.moved, 96);
+LURGABEL_AT(read_queue, read_queue, 99);
+LURGABEL_AT(program_queue, program_queue, 116);
+LURGABEL_AT(recorded, recorded, 133);
+LURGABEL_AT(last_address, last_address, 134);
+#undef LURGABEL_AT
+typedef char lurgabel_size[sizeof(lurgabel_controller) == 4u * LURGABEL_NUMBERS ? 1 : -1];
+
 /* What initialising hands out: the first 8 bus words of the creator and of the owner seed page, or zeros. */
 typedef struct lurgabel_seeds {
     uint32_t creator[8];
     uint32_t owner[8];
-    uint8_t given;  /* 1 if provision is enabled and the call was accepted, else 0 */
+    uint32_t given;  /* 1 if provision is enabled and the call was accepted, else 0 */
 } lurgabel_seeds;
 
 /* ---- the library's own functions ------------------------------------------------------------------------------ */
 
-/* They take the controller by value and hand it back in their result. The calls below are easier to use. */
+/* What they hand back beside what they leave in the lent memory. The calls below are easier to use. */
 
-typedef struct lurgabel_outcome {
-    lurgabel_controller controller;
+typedef struct lurgabel_initialised {
     uint32_t answer;
-} lurgabel_outcome;
-
-typedef struct lurgabel_fetched {
-    lurgabel_controller controller;
-    uint32_t answer;
-    uint32_t word;
-} lurgabel_fetched;
+    lurgabel_seeds seeds;
+} lurgabel_initialised;
 
 typedef struct lurgabel_stepped {
-    lurgabel_controller controller;
     uint32_t answer;
     uint32_t movement;
     uint32_t bits;
 } lurgabel_stepped;
 
-typedef struct lurgabel_initialised {
-    lurgabel_controller controller;
+typedef struct lurgabel_fetched {
     uint32_t answer;
-    lurgabel_seeds seeds;
-} lurgabel_initialised;
+    uint32_t word;
+} lurgabel_fetched;
 
 typedef struct lurgabel_completed {
-    lurgabel_controller controller;
     uint32_t answer;
     uint32_t bits;
 } lurgabel_completed;
@@ -233,86 +255,73 @@ typedef struct lurgabel_viewed {
     uint32_t start;  /* the bus word of the image at which the view starts; 0 if it is refused */
 } lurgabel_viewed;
 
-lurgabel_outcome lurgabel_value_reset(lurgabel_controller c, uint32_t data_pages);
-lurgabel_outcome lurgabel_value_set_inputs(lurgabel_controller c, uint8_t provision_enabled, uint8_t seeds_locked);
-lurgabel_outcome lurgabel_value_set_region(lurgabel_controller c, uint32_t number, lurgabel_region region);
-lurgabel_outcome lurgabel_value_set_default_rights(lurgabel_controller c, uint8_t rights);
-lurgabel_outcome lurgabel_value_set_info_page(lurgabel_controller c, uint32_t bank, uint8_t info_type, uint32_t page,
-                                              lurgabel_page_setting setting);
-lurgabel_outcome lurgabel_value_set_bank_erase(lurgabel_controller c, uint32_t bank, uint8_t on);
-lurgabel_outcome lurgabel_value_clear_errors(lurgabel_controller c);
-lurgabel_initialised lurgabel_value_initialise(lurgabel_controller c, const uint32_t *image, size_t image_words);
-lurgabel_outcome lurgabel_value_start(lurgabel_controller c, lurgabel_operation operation);
-lurgabel_stepped lurgabel_value_step(lurgabel_controller c, uint32_t *image, size_t image_words);
-lurgabel_outcome lurgabel_value_push(lurgabel_controller c, uint32_t word);
-lurgabel_fetched lurgabel_value_pop(lurgabel_controller c);
-lurgabel_completed lurgabel_value_run(lurgabel_controller c, uint32_t *image, size_t image_words,
-                                      lurgabel_operation operation, uint32_t *buffer, size_t buffer_words);
-lurgabel_fetched lurgabel_value_host_read(lurgabel_controller c, const uint32_t *image, size_t image_words,
-                                          uint32_t address);
-lurgabel_viewed lurgabel_value_view(lurgabel_controller c, const uint32_t *image, size_t image_words, uint32_t page);
-lurgabel_outcome lurgabel_value_rma(lurgabel_controller c, uint32_t *image, size_t image_words);
+/* A flag is off at 0 and on otherwise; rights or an info_type over 255 count as 255. */
+uint32_t lurgabel_layout2_reset(lurgabel_controller *c, uint32_t data_pages);
+uint32_t lurgabel_layout2_set_inputs(lurgabel_controller *c, uint32_t provision_enabled, uint32_t seeds_locked);
+uint32_t lurgabel_layout2_set_region(lurgabel_controller *c, uint32_t number, lurgabel_region region);
+uint32_t lurgabel_layout2_set_default_rights(lurgabel_controller *c, uint32_t rights);
+uint32_t lurgabel_layout2_set_info_page(lurgabel_controller *c, uint32_t bank, uint32_t info_type, uint32_t page,
+                                        lurgabel_page_setting setting);
+uint32_t lurgabel_layout2_set_bank_erase(lurgabel_controller *c, uint32_t bank, uint32_t on);
+uint32_t lurgabel_layout2_clear_errors(lurgabel_controller *c);
+lurgabel_initialised lurgabel_layout2_initialise(lurgabel_controller *c, const uint32_t *image, size_t image_words);
+uint32_t lurgabel_layout2_start(lurgabel_controller *c, lurgabel_operation operation);
+lurgabel_stepped lurgabel_layout2_step(lurgabel_controller *c, uint32_t *image, size_t image_words);
+uint32_t lurgabel_layout2_push(lurgabel_controller *c, uint32_t word);
+lurgabel_fetched lurgabel_layout2_pop(lurgabel_controller *c);
+lurgabel_completed lurgabel_layout2_run(lurgabel_controller *c, uint32_t *image, size_t image_words,
+                                        lurgabel_operation operation, uint32_t *buffer, size_t buffer_words);
+lurgabel_fetched lurgabel_layout2_host_read(const lurgabel_controller *c, const uint32_t *image, size_t image_words,
+                                            uint32_t address);
+lurgabel_viewed lurgabel_layout2_view(const lurgabel_controller *c, const uint32_t *image, size_t image_words,
+                                      uint32_t page);
+uint32_t lurgabel_layout2_rma(lurgabel_controller *c, uint32_t *image, size_t image_words);
 
 /* ---- the calls ------------------------------------------------------------------------------------------------ */
 
-/* Each changes *c as its rule says and returns the answer. A pointer that a value goes to may be NULL. An image and a
- * buffer are lent for the time of the call: each has as many words as its length says (with a length of 0 it may be
- * NULL), and they must not overlap each other. */
+/* Each changes *c as its rule says and returns the answer. A pointer that a value goes to may be NULL. The controller,
+ * an image and a buffer are lent for the time of the call, and none of them may overlap another. An image and a buffer
+ * have as many words as their length says; with a length of 0 they may be NULL. */
 
 /* Resets any controller, whatever stands in it (a new variable is best set to zeros), to D data pages in each bank:
  * every setting and input off or 0. It touches no image. Checks D alone. */
 static inline lurgabel_answer lurgabel_reset(lurgabel_controller *c, uint32_t data_pages) {
-    lurgabel_outcome r = lurgabel_value_reset(*c, data_pages);
-    *c = r.controller;
-    return (lurgabel_answer)r.answer;
+    return (lurgabel_answer)lurgabel_layout2_reset(c, data_pages);
 }
 
 /* Inputs and settings: refused while an operation is in progress, allowed when disabled. */
 static inline lurgabel_answer lurgabel_set_inputs(lurgabel_controller *c, bool provision_enabled, bool seeds_locked) {
-    lurgabel_outcome r = lurgabel_value_set_inputs(*c, provision_enabled, seeds_locked);
-    *c = r.controller;
-    return (lurgabel_answer)r.answer;
+    return (lurgabel_answer)lurgabel_layout2_set_inputs(c, provision_enabled, seeds_locked);
 }
 
 /* Region 0 to 7. Any `on` but 0 switches it on. */
 static inline lurgabel_answer lurgabel_set_region(lurgabel_controller *c, uint32_t number, lurgabel_region region) {
-    lurgabel_outcome r = lurgabel_value_set_region(*c, number, region);
-    *c = r.controller;
-    return (lurgabel_answer)r.answer;
+    return (lurgabel_answer)lurgabel_layout2_set_region(c, number, region);
 }
 
-static inline lurgabel_answer lurgabel_set_default_rights(lurgabel_controller *c, uint8_t rights) {
-    lurgabel_outcome r = lurgabel_value_set_default_rights(*c, rights);
-    *c = r.controller;
-    return (lurgabel_answer)r.answer;
+static inline lurgabel_answer lurgabel_set_default_rights(lurgabel_controller *c, uint32_t rights) {
+    return (lurgabel_answer)lurgabel_layout2_set_default_rights(c, rights);
 }
 
 /* An information page, by its bank, its type and its number in the type. Any `on` but 0 switches it on. */
-static inline lurgabel_answer lurgabel_set_info_page(lurgabel_controller *c, uint32_t bank, uint8_t info_type,
+static inline lurgabel_answer lurgabel_set_info_page(lurgabel_controller *c, uint32_t bank, uint32_t info_type,
                                                      uint32_t page, lurgabel_page_setting setting) {
-    lurgabel_outcome r = lurgabel_value_set_info_page(*c, bank, info_type, page, setting);
-    *c = r.controller;
-    return (lurgabel_answer)r.answer;
+    return (lurgabel_answer)lurgabel_layout2_set_info_page(c, bank, info_type, page, setting);
 }
 
 static inline lurgabel_answer lurgabel_set_bank_erase(lurgabel_controller *c, uint32_t bank, bool on) {
-    lurgabel_outcome r = lurgabel_value_set_bank_erase(*c, bank, on);
-    *c = r.controller;
-    return (lurgabel_answer)r.answer;
+    return (lurgabel_answer)lurgabel_layout2_set_bank_erase(c, bank, on);
 }
 
 /* Clears the recorded kinds and the last address. */
 static inline lurgabel_answer lurgabel_clear_errors(lurgabel_controller *c) {
-    lurgabel_outcome r = lurgabel_value_clear_errors(*c);
-    *c = r.controller;
-    return (lurgabel_answer)r.answer;
+    return (lurgabel_answer)lurgabel_layout2_clear_errors(c);
 }
 
 /* Makes a controller that was reset ready. With provision enabled the seeds are handed out. */
 static inline lurgabel_answer lurgabel_initialise(lurgabel_controller *c, const uint32_t *image, size_t image_words,
                                                   lurgabel_seeds *seeds) {
-    lurgabel_initialised r = lurgabel_value_initialise(*c, image, image_words);
-    *c = r.controller;
+    lurgabel_initialised r = lurgabel_layout2_initialise(c, image, image_words);
     if (seeds != NULL) {
         *seeds = r.seeds;
     }
@@ -321,16 +330,13 @@ static inline lurgabel_answer lurgabel_initialise(lurgabel_controller *c, const 
 
 /* Starts an operation, which steps then carry out. */
 static inline lurgabel_answer lurgabel_start(lurgabel_controller *c, lurgabel_operation operation) {
-    lurgabel_outcome r = lurgabel_value_start(*c, operation);
-    *c = r.controller;
-    return (lurgabel_answer)r.answer;
+    return (lurgabel_answer)lurgabel_layout2_start(c, operation);
 }
 
 /* Moves one word of the operation in progress; `bits` is how many bits it changed in the flash. */
 static inline lurgabel_answer lurgabel_step(lurgabel_controller *c, uint32_t *image, size_t image_words,
                                             lurgabel_movement *movement, uint32_t *bits) {
-    lurgabel_stepped r = lurgabel_value_step(*c, image, image_words);
-    *c = r.controller;
+    lurgabel_stepped r = lurgabel_layout2_step(c, image, image_words);
     if (movement != NULL) {
         *movement = (lurgabel_movement)r.movement;
     }
@@ -342,15 +348,12 @@ static inline lurgabel_answer lurgabel_step(lurgabel_controller *c, uint32_t *im
 
 /* Gives a program in progress its next word. */
 static inline lurgabel_answer lurgabel_push(lurgabel_controller *c, uint32_t word) {
-    lurgabel_outcome r = lurgabel_value_push(*c, word);
-    *c = r.controller;
-    return (lurgabel_answer)r.answer;
+    return (lurgabel_answer)lurgabel_layout2_push(c, word);
 }
 
 /* Takes the oldest word that a read has delivered. */
 static inline lurgabel_answer lurgabel_pop(lurgabel_controller *c, uint32_t *word) {
-    lurgabel_fetched r = lurgabel_value_pop(*c);
-    *c = r.controller;
+    lurgabel_fetched r = lurgabel_layout2_pop(c);
     if (word != NULL) {
         *word = r.word;
     }
@@ -363,8 +366,7 @@ static inline lurgabel_answer lurgabel_pop(lurgabel_controller *c, uint32_t *wor
 static inline lurgabel_answer lurgabel_run(lurgabel_controller *c, uint32_t *image, size_t image_words,
                                            lurgabel_operation operation, uint32_t *buffer, size_t buffer_words,
                                            uint32_t *bits) {
-    lurgabel_completed r = lurgabel_value_run(*c, image, image_words, operation, buffer, buffer_words);
-    *c = r.controller;
+    lurgabel_completed r = lurgabel_layout2_run(c, image, image_words, operation, buffer, buffer_words);
     if (bits != NULL) {
         *bits = r.bits;
     }
@@ -375,8 +377,7 @@ static inline lurgabel_answer lurgabel_run(lurgabel_controller *c, uint32_t *ima
  * there what was read. */
 static inline lurgabel_answer lurgabel_host_read(lurgabel_controller *c, const uint32_t *image, size_t image_words,
                                                  uint32_t address, uint32_t *word) {
-    lurgabel_fetched r = lurgabel_value_host_read(*c, image, image_words, address);
-    *c = r.controller;
+    lurgabel_fetched r = lurgabel_layout2_host_read(c, image, image_words, address);
     if (word != NULL) {
         *word = r.word;
     }
@@ -386,7 +387,7 @@ static inline lurgabel_answer lurgabel_host_read(lurgabel_controller *c, const u
 /* The 256 words of a data page (0 to 2D - 1) inside the caller's own image, or NULL if the view is refused. */
 static inline const uint32_t *lurgabel_view(const lurgabel_controller *c, const uint32_t *image, size_t image_words,
                                             uint32_t page, lurgabel_answer *answer) {
-    lurgabel_viewed r = lurgabel_value_view(*c, image, image_words, page);
+    lurgabel_viewed r = lurgabel_layout2_view(c, image, image_words, page);
     if (answer != NULL) {
         *answer = (lurgabel_answer)r.answer;
     }
@@ -395,9 +396,7 @@ static inline const uint32_t *lurgabel_view(const lurgabel_controller *c, const 
 
 /* Enters RMA: wipes every data page and the special pages, empties the queues and disables the controller. */
 static inline lurgabel_answer lurgabel_rma(lurgabel_controller *c, uint32_t *image, size_t image_words) {
-    lurgabel_outcome r = lurgabel_value_rma(*c, image, image_words);
-    *c = r.controller;
-    return (lurgabel_answer)r.answer;
+    return (lurgabel_answer)lurgabel_layout2_rma(c, image, image_words);
 }
 
 /* ---- helpers -------------------------------------------------------------------------------------------------- */

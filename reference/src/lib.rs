@@ -1,7 +1,9 @@
 //! A second, independent program for the flash controller of document 01, and
 //! the C interface of the proved model, so that the two can be compared.
 //!
-//! The second program (`model`) shares no code with the proved model.
+//! The second program (`model`) shares no code with the proved model. `plain`
+//! is what the proved model's speed is measured against.
 
 pub mod interface;
 pub mod model;
+pub mod plain;

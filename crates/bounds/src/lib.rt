@@ -1,11 +1,10 @@
 // The parts of a state, each within its bounds.
 ghost use mathlib.Core.Path.{_≡_};
-ghost use Rattle.model.specs.Valid.{all, rightsFit, regionFits, pageFits, settingsFit, errorsFit, queuesFit};
+ghost use Rattle.model.specs.Settings.{infoExists};
+ghost use Rattle.model.specs.Valid.{rightsFit, regionFits, pageFits, errorsFit};
 use model::Errors;
 use model::PageSetting;
-use model::Queues;
 use model::Region;
-use model::Settings;
 
 // ---- the settings pass check 13
 
@@ -32,40 +31,15 @@ pub fn page_fits(p: PageSetting) -> bool
     p.rights <= 7
 }
 
-fn regions_fit(d: u32, regions: [Region; 8]) -> bool
-    ensures { λ r. ⌜ r ≡ all (regionFits d) regions ⌝ }
+// An information page exists, by its bank, its type and its number in the type.
+pub fn info_exists(bank: u32, t: u8, page: u32) -> bool
+    ensures { λ r. ⌜ r ≡ infoExists bank t page ⌝ }
 {
-    let mut ok = true;
-    for i in 0..8usize {
-        let one = region_fits(d, regions[i]);
-        ok = ok & one;
-    }
-    ok
+    let count = geometry::info_count(t);
+    (bank < 2) & ((t < 3) & (page < count))
 }
 
-fn pages_fit(info: [PageSetting; 26]) -> bool
-    ensures { λ r. ⌜ r ≡ all pageFits info ⌝ }
-{
-    let mut ok = true;
-    for i in 0..26usize {
-        let one = page_fits(info[i]);
-        ok = ok & one;
-    }
-    ok
-}
-
-pub fn settings_fit(d: u32, s: Settings) -> bool
-    ensures { λ r. ⌜ r ≡ settingsFit d s ⌝ }
-{
-    let regions = s.regions;
-    let info = s.info;
-    let other = rights_fit(s.default_rights);
-    let held = regions_fit(d, regions);
-    let pages = pages_fit(info);
-    other & (held & pages)
-}
-
-// ---- the error record and the queues
+// ---- the error record
 
 pub fn errors_fit(e: Errors) -> bool
     ensures { λ r. ⌜ r ≡ errorsFit e ⌝ }
@@ -73,12 +47,4 @@ pub fn errors_fit(e: Errors) -> bool
     let address = e.address;
     let none = address.0 == 0;
     (e.malformed | (e.range | (e.window | e.denied))) | none
-}
-
-pub fn queues_fit(ready: bool, q: Queues) -> bool
-    ensures { λ r. ⌜ r ≡ queuesFit ready q ⌝ }
-{
-    let small = (q.reads.len <= 16) & (q.programs.len <= 16);
-    let none = state::both_empty(q);
-    small & (ready | none)
 }

@@ -1,188 +1,156 @@
-// The calls for C and Rust: the controller as a flat struct, by value, and plain numbers and slices beside it.
-// include/lurgabel.h declares them and has the calls that a bench uses. A struct that encodes no state is refused with 1.
+// The calls for C and Rust: the registers where they lie, and plain numbers and slices beside them. include/lurgabel.h declares
+// them and has the calls that a bench uses. A name carries the layout's number, so that a library which does not fit the header
+// does not link.
 ghost use mathlib.Core.Path.{_≡_};
 ghost use Rattle.model.specs.State.{flash};
-ghost use Rattle.capi.specs.Calls.{resetFlat, setInputsFlat, setRegionFlat, setDefaultFlat, setInfoFlat, setEraseFlat, clearFlat, initialiseFlat, rmaFlat, startFlat, stepFlat, pushFlat, popFlat, runFlat, hostReadFlat, viewFlat};
-use flat::FlatController;
-use flat::FlatOperation;
-use flat::FlatRegion;
-use flat::FlatSetting;
+ghost use Rattle.registers.specs.Registers.{isOn};
+ghost use Rattle.calls.specs.Asked.{byteOf, inputsOf, regionOf, settingOf, operationOf};
+ghost use Rattle.calls.specs.Calls.{resetIn, setInputsIn, setRegionIn, setDefaultIn, setInfoIn, setEraseIn, clearIn, initialiseIn, rmaIn, startIn, stepIn, pushIn, popIn, wholeIn, hostReadIn, viewIn};
+use calls::AskedOperation;
+use calls::AskedRegion;
+use calls::AskedSetting;
+use calls::ToldBits;
+use calls::ToldSeeds;
+use calls::ToldStart;
+use calls::ToldStep;
+use calls::ToldWord;
 use model::ByteAddress;
-use model::Inputs;
 use model::Page;
-use results::FlatCompleted;
-use results::FlatFetched;
-use results::FlatInitialised;
-use results::FlatOutcome;
-use results::FlatStepped;
-use results::FlatViewed;
+use registers::Registers;
 
 // ---- reset, inputs and settings
 
 #[no_mangle]
-pub extern "C" fn lurgabel_value_reset(s: FlatController, pages: u32) -> FlatOutcome
-    ensures { λ r. ⌜ r ≡ resetFlat s pages ⌝ }
+pub extern "C" fn lurgabel_layout2_reset(s: &mut Registers, pages: u32) -> u32
+    ensures { λ r. ⌜ record { told = r; registers = now (s .exit) } ≡ resetIn (now (s .entry)) pages ⌝ }
 {
-    results::reset_of(s, resetting::reset(encoding::decode(s), pages))
+    lifecycle::reset(s, pages)
 }
 
 #[no_mangle]
-pub extern "C" fn lurgabel_value_set_inputs(
-    s: FlatController,
-    provision: u8,
-    locked: u8,
-) -> FlatOutcome
-    ensures { λ r. ⌜ r ≡ setInputsFlat s provision locked ⌝ }
+pub extern "C" fn lurgabel_layout2_set_inputs(s: &mut Registers, provision: u32, locked: u32) -> u32
+    ensures { λ r. ⌜ record { told = r; registers = now (s .exit) } ≡ setInputsIn (now (s .entry)) (inputsOf provision locked) ⌝ }
 {
-    let inputs = Inputs {
-        provision: flat::is_on(provision),
-        locked: flat::is_on(locked),
-    };
-    results::outcome_of(s, settings::set_inputs(encoding::decode(s), inputs))
+    settings::set_inputs(s, calls::inputs(provision, locked))
 }
 
 #[no_mangle]
-pub extern "C" fn lurgabel_value_set_region(
-    s: FlatController,
+pub extern "C" fn lurgabel_layout2_set_region(
+    s: &mut Registers,
     number: u32,
-    region: FlatRegion,
-) -> FlatOutcome
-    ensures { λ r. ⌜ r ≡ setRegionFlat s number region ⌝ }
+    region: AskedRegion,
+) -> u32
+    ensures { λ r. ⌜ record { told = r; registers = now (s .exit) } ≡ setRegionIn (now (s .entry)) number (regionOf region) ⌝ }
 {
-    let g = flat::region_of(region);
-    results::outcome_of(s, settings::set_region(encoding::decode(s), number, g))
+    settings::set_region(s, number, calls::region(region))
 }
 
 #[no_mangle]
-pub extern "C" fn lurgabel_value_set_default_rights(s: FlatController, rights: u8) -> FlatOutcome
-    ensures { λ r. ⌜ r ≡ setDefaultFlat s rights ⌝ }
+pub extern "C" fn lurgabel_layout2_set_default_rights(s: &mut Registers, rights: u32) -> u32
+    ensures { λ r. ⌜ record { told = r; registers = now (s .exit) } ≡ setDefaultIn (now (s .entry)) (byteOf rights) ⌝ }
 {
-    results::outcome_of(s, settings::set_default(encoding::decode(s), rights))
+    settings::set_default(s, calls::byte(rights))
 }
 
 #[no_mangle]
-pub extern "C" fn lurgabel_value_set_info_page(
-    s: FlatController,
+pub extern "C" fn lurgabel_layout2_set_info_page(
+    s: &mut Registers,
     bank: u32,
-    info: u8,
+    info: u32,
     page: u32,
-    setting: FlatSetting,
-) -> FlatOutcome
-    ensures { λ r. ⌜ r ≡ setInfoFlat s bank info page setting ⌝ }
+    setting: AskedSetting,
+) -> u32
+    ensures { λ r. ⌜ record { told = r; registers = now (s .exit) } ≡ setInfoIn (now (s .entry)) bank (byteOf info) page (settingOf setting) ⌝ }
 {
-    let p = flat::setting_of(setting);
-    results::outcome_of(
-        s,
-        settings::set_info(encoding::decode(s), bank, info, page, p),
-    )
+    settings::set_info(s, bank, calls::byte(info), page, calls::setting(setting))
 }
 
 #[no_mangle]
-pub extern "C" fn lurgabel_value_set_bank_erase(s: FlatController, bank: u32, on: u8) -> FlatOutcome
-    ensures { λ r. ⌜ r ≡ setEraseFlat s bank on ⌝ }
+pub extern "C" fn lurgabel_layout2_set_bank_erase(s: &mut Registers, bank: u32, on: u32) -> u32
+    ensures { λ r. ⌜ record { told = r; registers = now (s .exit) } ≡ setEraseIn (now (s .entry)) bank (isOn on) ⌝ }
 {
-    let allowed = flat::is_on(on);
-    results::outcome_of(s, settings::set_erase(encoding::decode(s), bank, allowed))
+    settings::set_erase(s, bank, calls::flag(on))
 }
 
 #[no_mangle]
-pub extern "C" fn lurgabel_value_clear_errors(s: FlatController) -> FlatOutcome
-    ensures { λ r. ⌜ r ≡ clearFlat s ⌝ }
+pub extern "C" fn lurgabel_layout2_clear_errors(s: &mut Registers) -> u32
+    ensures { λ r. ⌜ record { told = r; registers = now (s .exit) } ≡ clearIn (now (s .entry)) ⌝ }
 {
-    results::outcome_of(s, settings::clear(encoding::decode(s)))
+    settings::clear(s)
 }
 
 // ---- initialise and RMA
 
 #[no_mangle]
-pub extern "C" fn lurgabel_value_initialise(s: FlatController, image: &[u32]) -> FlatInitialised
-    ensures { λ r. ⌜ r ≡ initialiseFlat s (flash (now (image .entry))) ⌝ }
+pub extern "C" fn lurgabel_layout2_initialise(s: &mut Registers, image: &[u32]) -> ToldSeeds
+    ensures { λ r. ⌜ record { told = r; registers = now (s .exit) } ≡ initialiseIn (now (s .entry)) (flash (now (image .entry))) ⌝ }
 {
-    results::initialised_of(s, lifecycle::initialise(encoding::decode(s), image))
+    lifecycle::initialise(s, image)
 }
 
 #[no_mangle]
-pub extern "C" fn lurgabel_value_rma(s: FlatController, image: &mut [u32]) -> FlatOutcome
-    ensures { λ r. ⌜ record { result = r; flash = flash (now (image .exit)) } ≡ rmaFlat s (flash (now (image .entry))) ⌝ }
+pub extern "C" fn lurgabel_layout2_rma(s: &mut Registers, image: &mut [u32]) -> u32
+    ensures { λ r. ⌜ record { told = r; registers = now (s .exit); flash = flash (now (image .exit)) } ≡ rmaIn (now (s .entry)) (flash (now (image .entry))) ⌝ }
 {
-    let r = rma::rma(encoding::decode(s), image);
-    results::outcome_of(s, r)
+    lifecycle::rma(s, image)
 }
 
 // ---- operations by steps
 
 #[no_mangle]
-pub extern "C" fn lurgabel_value_start(s: FlatController, operation: FlatOperation) -> FlatOutcome
-    ensures { λ r. ⌜ r ≡ startFlat s operation ⌝ }
+pub extern "C" fn lurgabel_layout2_start(s: &mut Registers, operation: AskedOperation) -> u32
+    ensures { λ r. ⌜ record { told = r; registers = now (s .exit) } ≡ startIn (now (s .entry)) (operationOf operation) ⌝ }
 {
-    let o = flat::operation_of(operation);
-    results::started_of(s, operations::start(encoding::decode(s), o))
+    operations::start(s, calls::operation(operation))
 }
 
 #[no_mangle]
-pub extern "C" fn lurgabel_value_step(s: FlatController, image: &mut [u32]) -> FlatStepped
-    ensures { λ r. ⌜ record { result = r; flash = flash (now (image .exit)) } ≡ stepFlat s (flash (now (image .entry))) ⌝ }
+pub extern "C" fn lurgabel_layout2_step(s: &mut Registers, image: &mut [u32]) -> ToldStep
+    ensures { λ r. ⌜ record { told = r; registers = now (s .exit); flash = flash (now (image .exit)) } ≡ stepIn (now (s .entry)) (flash (now (image .entry))) ⌝ }
 {
-    let r = steps::step(encoding::decode(s), image);
-    results::stepped_of(s, r)
+    steps::step(s, image)
 }
 
 #[no_mangle]
-pub extern "C" fn lurgabel_value_push(s: FlatController, word: u32) -> FlatOutcome
-    ensures { λ r. ⌜ r ≡ pushFlat s word ⌝ }
+pub extern "C" fn lurgabel_layout2_push(s: &mut Registers, word: u32) -> u32
+    ensures { λ r. ⌜ record { told = r; registers = now (s .exit) } ≡ pushIn (now (s .entry)) word ⌝ }
 {
-    results::outcome_of(s, queueing::push(encoding::decode(s), word))
+    queueing::push(s, word)
 }
 
 #[no_mangle]
-pub extern "C" fn lurgabel_value_pop(s: FlatController) -> FlatFetched
-    ensures { λ r. ⌜ r ≡ popFlat s ⌝ }
+pub extern "C" fn lurgabel_layout2_pop(s: &mut Registers) -> ToldWord
+    ensures { λ r. ⌜ record { told = r; registers = now (s .exit) } ≡ popIn (now (s .entry)) ⌝ }
 {
-    results::fetched_of(s, queueing::pop(encoding::decode(s)))
+    queueing::pop(s)
 }
 
 // ---- whole operations
 
 #[no_mangle]
-pub extern "C" fn lurgabel_value_run(
-    s: FlatController,
+pub extern "C" fn lurgabel_layout2_run(
+    s: &mut Registers,
     image: &mut [u32],
-    operation: FlatOperation,
+    operation: AskedOperation,
     buffer: &mut [u32],
-) -> FlatCompleted
-    ensures { λ r. ⌜ record { result = r; flash = flash (now (image .exit)); buffer = now (buffer .exit) } ≡ runFlat s (flash (now (image .entry))) operation (now (buffer .entry)) ⌝ }
+) -> ToldBits
+    ensures { λ r. ⌜ record { told = r; registers = now (s .exit); flash = flash (now (image .exit)); buffer = now (buffer .exit) } ≡ wholeIn (now (s .entry)) (flash (now (image .entry))) (operationOf operation) (now (buffer .entry)) ⌝ }
 {
-    let o = flat::operation_of(operation);
-    let r = whole::run(encoding::decode(s), image, o, buffer);
-    results::completed_of(s, r)
+    whole::run(s, image, calls::operation(operation), buffer)
 }
 
-// ---- host read and view
+// ---- the host
 
 #[no_mangle]
-pub extern "C" fn lurgabel_value_host_read(
-    s: FlatController,
-    image: &[u32],
-    address: u32,
-) -> FlatFetched
-    ensures { λ r. ⌜ r ≡ hostReadFlat s (flash (now (image .entry))) address ⌝ }
+pub extern "C" fn lurgabel_layout2_host_read(s: &Registers, image: &[u32], address: u32) -> ToldWord
+    ensures { λ r. ⌜ r ≡ hostReadIn (now (s .entry)) (flash (now (image .entry))) (record { 0 = address }) ⌝ }
 {
-    results::fetched_of(
-        s,
-        host::host_read(encoding::decode(s), image, ByteAddress(address)),
-    )
+    host::host_read(s, image, ByteAddress(address))
 }
 
-// Where a view starts, since no reference goes back to C.
 #[no_mangle]
-pub extern "C" fn lurgabel_value_view(s: FlatController, image: &[u32], page: u32) -> FlatViewed
-    ensures { λ r. ⌜ r ≡ viewFlat s (flash (now (image .entry))) page ⌝ }
+pub extern "C" fn lurgabel_layout2_view(s: &Registers, image: &[u32], page: u32) -> ToldStart
+    ensures { λ r. ⌜ r ≡ viewIn (now (s .entry)) (flash (now (image .entry))) (record { 0 = page }) ⌝ }
 {
-    let place = view::view_place(encoding::decode(s), image, Page(page));
-    let answer = place.answer;
-    let start = place.start;
-    FlatViewed {
-        answer: refusals::number_of(answer) as u32,
-        start: start.0,
-    }
+    host::view_start(s, image, Page(page))
 }

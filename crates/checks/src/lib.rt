@@ -2,12 +2,11 @@
 ghost use mathlib.Core.Path.{_≡_};
 ghost use mathlib.Core.Bool.{false};
 ghost use Rattle.model.specs.Kinds.{noPartition};
-ghost use Rattle.model.specs.Checks.{unaligned, badCount, malformed, pastData, spanLimit, outOfRange, crossesWindow, operationAnswer};
+ghost use Rattle.model.specs.Checks.{unaligned, badCount, malformed, pastData, spanLimit, outOfRange, crossesWindow};
 ghost use Rattle.model.specs.Refusals.{check};
 use model::Answer;
 use model::ByteAddress;
 use model::Operation;
-use model::Setup;
 
 pub fn unaligned(a: ByteAddress) -> bool
     ensures { λ r. ⌜ r ≡ unaligned a ⌝ }
@@ -91,18 +90,4 @@ pub fn crosses_window(o: Operation) -> bool
         return first / 64 != last / 64;
     }
     false
-}
-
-// Checks 5, 7, 8 and 9. Only an operation that passes check 5 has a span to look at.
-pub fn operation_answer(s: Setup, o: Operation) -> Answer
-    ensures { λ r. ⌜ r ≡ operationAnswer s o ⌝ }
-{
-    let form = form_answer(o);
-    if !refusals::accepts(form) {
-        return form;
-    }
-    let range = refusals::check(out_of_range(s.pages, o), Answer::OutOfRange);
-    let window = refusals::check(crosses_window(o), Answer::CrossesWindow);
-    let rights = refusals::check(permission::denied(s, o), Answer::Denied);
-    refusals::or_else(range, refusals::or_else(window, rights))
 }

@@ -1,7 +1,7 @@
 // Pages, bus words and byte addresses: the conversions between the three, for every D.
 ghost use mathlib.Core.Path.{_≡_};
 ghost use Prim.Native.Nat.{_+_, _<_, _≤_};
-ghost use Rattle.model.specs.Geometry.{pagesFit, imageWords, infoCount, infoFirst, infoIndex, dataImagePage, infoImagePage, firstWord, imagePageOf, pageOf, pageStart, bankOf, pageInBank, wordInPage, imagePage, wordAt, specialPage};
+ghost use Rattle.model.specs.Geometry.{pagesFit, imageWords, infoCount, infoFirst, infoIndex, dataImagePage, infoImagePage, firstWord, pageOf, pageStart, bankOf, pageInBank, wordInPage, imagePage, wordAt, specialPage};
 use model::BusWord;
 use model::ByteAddress;
 use model::ImagePage;
@@ -119,12 +119,6 @@ pub fn first_word(q: ImagePage) -> BusWord
     ensures { λ r. ⌜ r ≡ firstWord q ⌝ }
 {
     BusWord(q.0 * 256)
-}
-
-pub fn image_page_of(w: BusWord) -> ImagePage
-    ensures { λ r. ⌜ r ≡ imagePageOf w ⌝ }
-{
-    ImagePage(w.0 / 256)
 }
 
 // The bus word of the image that a byte address means.

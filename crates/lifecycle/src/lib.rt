@@ -1,18 +1,30 @@
-// Initialise, with the seeds.
+// The life cycle on registers: reset, initialise with the seeds, and RMA.
 ghost use mathlib.Core.Path.{_≡_};
 ghost use Prim.Native.Nat.{_+_, _≤_};
-ghost use lib.ListN.{length, take, drop};
+ghost use lib.ListN.{length, take, drop, replicate};
 ghost use Rattle.model.specs.State.{flash};
-ghost use Rattle.model.specs.Geometry.{imageWords};
-ghost use Rattle.model.specs.Lifecycle.{isDisabled, seedWords, noSeeds, seedsOf, initialiseAnswer, initialise};
+ghost use Rattle.model.specs.Geometry.{imageWords, creatorPage, ownerPage};
+ghost use Rattle.model.specs.Lifecycle.{isDisabled, seedWords, seedAt, initialiseAnswer, rmaAnswer};
+ghost use Rattle.registers.specs.Registers.{decode};
+ghost use Rattle.calls.specs.Calls.{resetIn, initialiseIn, rmaIn};
+use calls::ToldSeeds;
 use model::Answer;
 use model::BusWord;
-use model::Controller;
-use model::Initialised;
 use model::Phase;
-use model::Seeds;
+use registers::Registers;
 
-pub fn is_disabled(p: Phase) -> bool
+// Takes any state, and checks only its new D.
+pub fn reset(s: &mut Registers, pages: u32) -> u32
+    ensures { λ r. ⌜ record { told = r; registers = now (s .exit) } ≡ resetIn (now (s .entry)) pages ⌝ }
+{
+    if !geometry::pages_fit(pages) {
+        return calls::number(Answer::Invalid);
+    }
+    registers::clear(s, pages);
+    0
+}
+
+fn is_disabled(p: Phase) -> bool
     ensures { λ r. ⌜ r ≡ isDisabled p ⌝ }
 {
     match p {
@@ -22,14 +34,16 @@ pub fn is_disabled(p: Phase) -> bool
     }
 }
 
+// ---- initialise
+
 // Checks 1, 2 and 12 (when ready).
-fn initialise_answer(c: Controller, image: &[u32]) -> Answer
-    ensures { λ r. ⌜ r ≡ initialiseAnswer c (flash (now (image .entry))) ⌝ }
+fn initialise_answer(s: &Registers, image: &[u32]) -> Answer
+    ensures { λ r. ⌜ r ≡ initialiseAnswer (decode (now (s .entry))) (flash (now (image .entry))) ⌝ }
 {
-    let phase = c.phase;
-    let invalid = refusals::check(!validity::valid_with(c, image), Answer::Invalid);
+    let phase = registers::phase(s);
+    let invalid = refusals::check(!validity::valid_with(s, image), Answer::Invalid);
     let disabled = refusals::check(is_disabled(phase), Answer::Disabled);
-    let ready = refusals::check(state::is_ready(phase), Answer::Unexpected);
+    let ready = refusals::check(refusals::is_ready(phase), Answer::Unexpected);
     refusals::or_else(invalid, refusals::or_else(disabled, ready))
 }
 
@@ -46,53 +60,75 @@ fn seed(image: &[u32], at: BusWord) -> [u32; 8]
     words
 }
 
-fn no_seeds() -> Seeds
-    ensures { λ r. ⌜ r ≡ noSeeds ⌝ }
+fn no_seeds(answer: u32) -> ToldSeeds
+    ensures { λ r. ⌜ r ≡ record { answer = answer; creator = replicate 8 0; owner = replicate 8 0; given = 0 } ⌝ }
 {
-    Seeds {
-        given: false,
+    ToldSeeds {
+        answer,
         creator: [0u32; 8],
         owner: [0u32; 8],
+        given: 0,
     }
 }
 
 // The creator seed page is 1, the owner seed page 2.
-fn seeds_of(d: u32, image: &[u32]) -> Seeds
+fn seeds_of(d: u32, image: &[u32]) -> ToldSeeds
     requires { ⌜ (d ≤ 256) × (length (now image) ≡ imageWords d) ⌝ }
-    ensures { λ r. ⌜ r ≡ seedsOf d (flash (now (image .entry))) ⌝ }
+    ensures { λ r. ⌜ r ≡ record { answer = 0; creator = seedAt d creatorPage (flash (now (image .entry))); owner = seedAt d ownerPage (flash (now (image .entry))); given = 1 } ⌝ }
 {
     let creator = seed(image, geometry::first_word(geometry::special_page(d, 1)));
     let owner = seed(image, geometry::first_word(geometry::special_page(d, 2)));
-    Seeds {
-        given: true,
+    ToldSeeds {
+        answer: 0,
         creator,
         owner,
+        given: 1,
     }
 }
 
-// An uninitialised controller becomes ready. The seeds are read only where they are handed out.
-pub fn initialise(c: Controller, image: &[u32]) -> Initialised
-    ensures { λ r. ⌜ r ≡ initialise c (flash (now (image .entry))) ⌝ }
+// An uninitialised controller becomes ready. With provision enabled the seeds are handed out.
+pub fn initialise(s: &mut Registers, image: &[u32]) -> ToldSeeds
+    ensures { λ r. ⌜ record { told = r; registers = now (s .exit) } ≡ initialiseIn (now (s .entry)) (flash (now (image .entry))) ⌝ }
 {
-    let setup = c.setup;
-    let answer = initialise_answer(c, image);
-    let ready = state::with_phase(c, Phase::Ready);
-    let next = refusals::settle(c, ready, answer);
-    let controller = next.controller;
-    let inputs = setup.inputs;
-    let accepted = refusals::accepts(answer);
-    if accepted & inputs.provision {
-        let seeds = seeds_of(setup.pages, image);
-        return Initialised {
-            controller,
-            answer,
-            seeds,
-        };
+    let answer = initialise_answer(s, image);
+    if !refusals::accepts(answer) {
+        return no_seeds(calls::number(answer));
     }
-    let seeds = no_seeds();
-    Initialised {
-        controller,
-        answer,
-        seeds,
+    let d = registers::pages(s);
+    let inputs = registers::inputs(s);
+    registers::put_phase(s, Phase::Ready);
+    if inputs.provision {
+        return seeds_of(d, image);
     }
+    no_seeds(0)
+}
+
+// ---- RMA
+
+// Checks 1, 2 and 4.
+fn rma_answer(s: &Registers, image: &[u32]) -> Answer
+    ensures { λ r. ⌜ r ≡ rmaAnswer (decode (now (s .entry))) (flash (now (image .entry))) ⌝ }
+{
+    let phase = registers::phase(s);
+    let progress = registers::progress(s);
+    let invalid = refusals::check(!validity::valid_with(s, image), Answer::Invalid);
+    let disabled = refusals::check(is_disabled(phase), Answer::Disabled);
+    let busy = refusals::check(refusals::is_busy(progress), Answer::Busy);
+    refusals::or_else(invalid, refusals::or_else(disabled, busy))
+}
+
+// The image is wiped, both queues are emptied, and the controller is disabled until reset.
+pub fn rma(s: &mut Registers, image: &mut [u32]) -> u32
+    ensures { λ r. ⌜ record { told = r; registers = now (s .exit); flash = flash (now (image .exit)) } ≡ rmaIn (now (s .entry)) (flash (now (image .entry))) ⌝ }
+{
+    let answer = rma_answer(s, image);
+    if !refusals::accepts(answer) {
+        return calls::number(answer);
+    }
+    wiping::wipe(image, registers::pages(s));
+    let none = queue::empty();
+    registers::put_phase(s, Phase::Disabled);
+    registers::put_reads(s, none);
+    registers::put_programs(s, none);
+    0
 }

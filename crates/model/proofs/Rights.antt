@@ -1,4 +1,4 @@
--- The look-up of rights and the span check, one turn of a loop at a time, and what a passed check says of each page.
+-- The look-up of rights and the span check, one turn of a loop at a time, and what the check says of each page, passed or not.
 -- Assumes nothing.
 use Prim.Native.Nat.{ℕ, zero, suc, _+_, _-_, _*_, _/_, _%_, _≤_, _<_, min}
 use native.Mathlib.Nat.{add-zero, add-assoc, sub-zero, min-zero, min-eq-left, min-eq-right, min-le-right}
@@ -9,13 +9,17 @@ use mathlib.Core.Bool.{Bool, true, false, cond}
 use mathlib.Core.List.{List}
 use lib.ListN.{length, getD, drop, drop-of-length-le}
 use lib.Seq.{drop-cons}
-use borrow.Author.Tests.{ltb-false, not-false}
-use Rattle.model.specs.Geometry.{pageOf, bankOf, wordInPage}
+use lib.Dec.{ltb}
+use borrow.Author.Tests.{ltb-true, ltb-false, not-false}
+use Rattle.model.specs.Geometry.{pageOf, bankOf, wordInPage, infoIndex, isolatedPage}
 use Rattle.model.specs.Kinds.{isBankErase}
 use Rattle.model.specs.Places.{spanStart, spanWords, spanAddress}
-use Rattle.model.specs.Rights.{decides, dataRights, leading, spanPages, pageGrants, allowedWords, denied}
+use Rattle.model.specs.Rights.{decides, dataRights, pageRights, seedClosed, infoRights, leading, spanPages, pageGrants, allowedWords, denied}
+use Rattle.model.specs.State.{pageOff}
 use Rattle.model.specs.declared.ByteAddress.{ByteAddress}
 use Rattle.model.specs.declared.Operation.{Operation}
+use Rattle.model.specs.declared.Inputs.{Inputs}
+use Rattle.model.specs.declared.Settings.{Settings}
 use Rattle.model.specs.declared.Setup.{Setup}
 use Rattle.model.specs.declared.Page.{Page}
 use Rattle.model.specs.declared.Region.{Region}
@@ -93,6 +97,18 @@ leading-passed test from (suc n) (suc i) h =
     (λ t. rw e (leading-passed test (from + 1) n i (omega (arith, rw t at h))))
     (λ t. absurd (omega (arith, rw t at h)))
 
+-- The first number after the ones that pass, if it is among the n, fails.
+pub leading-failed : (test : ℕ → Bool) (from n : ℕ) → leading test from n < n → test (from + leading test from n) ≡ false
+unfolding leading
+leading-failed test from zero h = absurd (omega arith)
+leading-failed test from (suc n) h =
+    by-test (test from)
+    (λ t.
+    let fewer : leading test (from + 1) n < n = omega (arith, rw t at h) in
+    let e : from + suc (leading test (from + 1) n) ≡ from + 1 + leading test (from + 1) n = omega arith in
+    rw (t, e) (leading-failed test (from + 1) n fewer))
+    (λ t. rw (t, add-zero) t)
+
 -- ---- the words before the first page without the right
 
 -- The span check from its parts, each known by an equation.
@@ -114,23 +130,63 @@ some-before w a k h = sym (min-eq-right (omega arith))
 pub all-before : (w a k : ℕ) → w ≤ a - k → w ≡ min w (a - k)
 all-before w a k h = sym (min-eq-left h)
 
--- ---- what a check 9 that passes says
-
--- Each page with a word of a span that is not denied grants the right.
-pub span-granted : (s : Setup) (o : Operation) (k : ℕ) → isBankErase o ≡ false → denied s o ≡ false → k < spanWords o
-    → pageGrants s o (pageOf (spanAddress o k) .0) ≡ true
-unfolding denied allowedWords
-span-granted s o k b h l =
+-- Each word before the first page without the right lies on a page with it.
+pub before-granted : (s : Setup) (o : Operation) (k : ℕ) → k < allowedWords s o → pageGrants s o (pageOf (spanAddress o k) .0) ≡ true
+unfolding allowedWords
+before-granted s o k l =
     let from : ℕ = spanStart o .0 in
     let passed : ℕ = leading (pageGrants s o) (from / 1024) (spanPages o) in
-    let fits : spanWords o ≤ min (spanWords o) (passed * 256 - from % 1024 / 4) = ltb-false _ _ (rw b at h) in
     let most : min (spanWords o) (passed * 256 - from % 1024 / 4) ≤ passed * 256 - from % 1024 / 4 = min-le-right _ _ in
     let i : ℕ = (from % 1024 + 4 * k) / 1024 in
     let e : (from + 4 * k) / 1024 ≡ from / 1024 + i = omega arith in
     rw e (leading-passed (pageGrants s o) (from / 1024) (spanPages o) i (omega arith))
+
+-- The least of w and a that is below w is a.
+least-below : (w a : ℕ) → min w a < w → min w a ≡ a
+least-below w a h =
+    by-test (ltb a w)
+    (λ t. let l : a < w = ltb-true _ _ t in min-eq-right (omega arith))
+    (λ t. let same : min w a ≡ w = min-eq-left (ltb-false _ _ t) in absurd (omega arith))
+
+-- The word after these, if it is one of the span's, lies on a page without the right.
+pub first-denied : (s : Setup) (o : Operation) → allowedWords s o < spanWords o
+    → pageGrants s o (pageOf (spanAddress o (allowedWords s o)) .0) ≡ false
+unfolding allowedWords
+first-denied s o l =
+    let from : ℕ = spanStart o .0 in
+    let passed : ℕ = leading (pageGrants s o) (from / 1024) (spanPages o) in
+    let least : allowedWords s o ≡ passed * 256 - from % 1024 / 4 = least-below _ _ l in
+    let e : (from + 4 * allowedWords s o) / 1024 ≡ from / 1024 + passed = omega arith in
+    rw e (leading-failed (pageGrants s o) (from / 1024) (spanPages o) (omega arith))
+
+-- ---- what check 9 says
+
+-- Each page with a word of a span that is not denied grants the right.
+pub span-granted : (s : Setup) (o : Operation) (k : ℕ) → isBankErase o ≡ false → denied s o ≡ false → k < spanWords o
+    → pageGrants s o (pageOf (spanAddress o k) .0) ≡ true
+unfolding denied
+span-granted s o k b h l =
+    let fits : spanWords o ≤ allowedWords s o = ltb-false _ _ (rw b at h) in
+    before-granted s o k (omega arith)
+
+-- A span that is denied has a word on a page without the right.
+pub denied-has-one : (s : Setup) (o : Operation) → isBankErase o ≡ false → denied s o ≡ true
+    → (k : ℕ) × ((k < spanWords o) × (pageGrants s o (pageOf (spanAddress o k) .0) ≡ false))
+unfolding denied
+denied-has-one s o b h =
+    let l : allowedWords s o < spanWords o = ltb-true _ _ (rw b at h) in
+    (allowedWords s o, (l, first-denied s o l))
 
 -- A bank erase that is not denied has its bank's permission.
 pub bank-granted : (s : Setup) (o : Operation) → isBankErase o ≡ true → denied s o ≡ false
     → getD (s .settings .erase) (bankOf (s .pages) (pageOf (o .address))) false ≡ true
 unfolding denied
 bank-granted s o b h = not-false _ (rw b at h)
+
+-- ---- information pages
+
+-- The isolated page is no seed page: its own switch and rights decide, whatever the inputs are.
+pub isolated-ordinary : (i : Inputs) (s : Settings) → infoRights i s (infoIndex 0 0 isolatedPage)
+    ≡ pageRights (getD (s .info) (infoIndex 0 0 isolatedPage) pageOff)
+unfolding infoRights seedClosed
+isolated-ordinary i s = refl

@@ -1,26 +1,25 @@
-// Start: an operation begins.
+// Start on registers: an operation begins.
 ghost use mathlib.Core.Path.{_≡_};
-ghost use mathlib.Core.Bool.{true};
-ghost use Rattle.model.specs.Checks.{operationAnswer};
-ghost use Rattle.model.specs.Steps.{startAnswer, starts, workOf, started, start};
+ghost use mathlib.Core.Bool.{cond};
+ghost use Rattle.model.specs.Kinds.{isRead};
+ghost use Rattle.model.specs.Refusals.{isDenied};
+ghost use Rattle.model.specs.Steps.{startAnswer, starts, progressAfter, started};
+ghost use Rattle.registers.specs.Registers.{decode, standsFor, putProgress, put};
+ghost use Rattle.calls.specs.Calls.{startIn};
+ghost use Rattle.operations.specs.Starting.{Begins};
 use model::Answer;
-use model::Controller;
 use model::Operation;
-use model::Outcome;
-use model::Progress;
-use model::Setup;
-use model::Work;
+use registers::Registers;
 
 // Checks 1 to 4.
-fn start_answer(c: Controller) -> Answer
-    ensures { λ r. ⌜ r ≡ startAnswer c ⌝ }
+fn start_answer(s: &Registers) -> Answer
+    ensures { λ r. ⌜ r ≡ startAnswer (decode (now (s .entry))) ⌝ }
 {
-    let phase = c.phase;
-    let progress = c.progress;
-    let ready = refusals::ready_answer(validity::valid(c), phase);
+    let progress = registers::progress(s);
+    let ready = validity::ready(s);
     refusals::or_else(
         ready,
-        refusals::check(state::is_busy(progress), Answer::Busy),
+        refusals::check(refusals::is_busy(progress), Answer::Busy),
     )
 }
 
@@ -33,65 +32,45 @@ fn starts(o: Operation, answer: Answer) -> bool
     accepted | (read & denied)
 }
 
-// The work of an operation that starts; `answer` is that of its checks 5, 7, 8 and 9.
-fn work_of(s: Setup, o: Operation, answer: Answer) -> Work
-    requires { ⌜ (answer ≡ operationAnswer s o) × (starts o answer ≡ true) ⌝ }
-    ensures { λ r. ⌜ r ≡ workOf s o ⌝ }
+// How many words of what starts are readable; 0 unless it reads.
+fn readable(o: Operation, answer: Answer) -> u32
+    ensures { λ r. ⌜ r ≡ cond (isRead o) (cond (isDenied answer) 0 (o .count)) 0 ⌝ }
 {
     if places::is_read(o) {
-        let readable = state::readable_by(answer, o);
-        return Work::Read {
-            op: o,
-            moved: 0,
-            readable,
-        };
+        return lookups::readable_by(answer, o);
     }
-    if places::is_program(o) {
-        return Work::Program { op: o, moved: 0 };
+    0
+}
+
+// What starts is in progress.
+fn begin(s: &mut Registers, o: Operation, answer: Answer)
+    requires { ⌜ Begins (now s) o answer ⌝ }
+    ensures { λ _. ⌜ now (s .exit) ≡ putProgress (now (s .entry)) (progressAfter (standsFor (now (s .entry))) o answer) ⌝ }
+{
+    if starts(o, answer) {
+        registers::put_running(s, o, readable(o, answer));
     }
-    Work::Erase { op: o, moved: 0 }
 }
 
 // What checks 5, 7, 8 and 9 leave: a refusal is recorded, and what starts is in progress.
-fn started(c: Controller, o: Operation, answer: Answer) -> Outcome
-    requires { ⌜ answer ≡ operationAnswer (c .setup) o ⌝ }
-    ensures { λ r. ⌜ r ≡ started c o answer ⌝ }
+fn started(s: &mut Registers, o: Operation, answer: Answer)
+    requires { ⌜ Begins (now s) o answer ⌝ }
+    ensures { λ _. ⌜ now (s .exit) ≡ put (now (s .entry)) (started (standsFor (now (s .entry))) o answer .controller) ⌝ }
 {
-    let setup = c.setup;
     let address = o.address;
-    let errors = c.errors;
-    let next = state::with_errors(c, state::recorded(answer, address, errors));
-    if starts(o, answer) {
-        let work = work_of(setup, o, answer);
-        return Outcome {
-            controller: state::with_progress(next, Progress::Running(work)),
-            answer,
-        };
-    }
-    Outcome {
-        controller: next,
-        answer,
-    }
+    let errors = refusals::recorded(answer, address, registers::errors(s));
+    begin(s, o, answer);
+    registers::put_errors(s, errors);
 }
 
-pub fn refused(c: Controller, answer: Answer) -> Outcome
-    ensures { λ r. ⌜ r ≡ record { controller = c; answer = answer } ⌝ }
+pub fn start(s: &mut Registers, o: Operation) -> u32
+    ensures { λ r. ⌜ record { told = r; registers = now (s .exit) } ≡ startIn (now (s .entry)) o ⌝ }
 {
-    Outcome {
-        controller: c,
-        answer,
-    }
-}
-
-pub fn start(c: Controller, o: Operation) -> Outcome
-    ensures { λ r. ⌜ r ≡ start c o ⌝ }
-{
-    let setup = c.setup;
-    let first = start_answer(c);
-    let second = checks::operation_answer(setup, o);
-    let answer = refusals::or_else(first, second);
+    let first = start_answer(s);
     if !refusals::accepts(first) {
-        return refused(c, answer);
+        return calls::number(first);
     }
-    started(c, o, answer)
+    let answer = lookups::operation_answer(s, o);
+    started(s, o, answer);
+    calls::number(answer)
 }

@@ -3,7 +3,7 @@ ghost use mathlib.Core.Path.{_≡_};
 ghost use mathlib.Core.Bool.{false};
 ghost use Prim.Native.Nat.{_<_, _≤_};
 ghost use Rattle.model.specs.Geometry.{imageWords};
-ghost use Rattle.model.specs.Kinds.{isRead, isProgram, isPageErase, isBankErase, isInformation, usesCount, usesType, rightNeeded};
+ghost use Rattle.model.specs.Kinds.{isRead, isProgram, isPageErase, isBankErase, isInformation, usesCount, usesType, rightNeeded, usesCount};
 ghost use Rattle.model.specs.Places.{spanStart, spanWords, spanAddress, bankWords, totalWords, placeOf};
 ghost use Rattle.model.specs.Checks.{outOfRange};
 use model::BusWord;
@@ -14,6 +14,12 @@ pub fn is_read(o: Operation) -> bool
     ensures { λ r. ⌜ r ≡ isRead o ⌝ }
 {
     o.kind == 0
+}
+
+pub fn uses_count(o: Operation) -> bool
+    ensures { λ r. ⌜ r ≡ usesCount o ⌝ }
+{
+    o.kind < 2
 }
 
 pub fn is_program(o: Operation) -> bool

@@ -13,3 +13,5 @@ pub mod DrivenReads
 pub mod DrivenPrograms
 pub mod DrivenErases
 pub mod AnyDriverProof
+-- their premises can be met
+pub mod DriverInstances

@@ -56,11 +56,11 @@ module _ (s : Setup) (q : ImagePage) where
 -- ---- the right that a program or a page erase needs
 
 -- A program needs the program right,
-program-needs : (o : Operation) → isProgram o ≡ true → (isBankErase o ≡ false) × (rightNeeded o ≡ programRight)
+pub program-needs : (o : Operation) → isProgram o ≡ true → (isBankErase o ≡ false) × (rightNeeded o ≡ programRight)
 program-needs o h = let e : o .kind ≡ 1 = eqb-true _ _ h in rw e (refl, refl)
 
 -- and a page erase the erase right.
-page-erase-needs : (o : Operation) → isPageErase o ≡ true → (isBankErase o ≡ false) × (rightNeeded o ≡ eraseRight)
+pub page-erase-needs : (o : Operation) → isPageErase o ≡ true → (isBankErase o ≡ false) × (rightNeeded o ≡ eraseRight)
 page-erase-needs o h = let e : o .kind ≡ 2 = eqb-true _ _ h in rw e (refl, refl)
 
 -- ---- the page with the next place of work in progress is not protected
@@ -69,7 +69,7 @@ module _ (c : Controller) (o : Operation) (k : ℕ) (q : ImagePage) (h : valid c
     (some : k < totalWords (c .setup .pages) o) (passed : accepts (operationAnswer (c .setup) o) ≡ true)
     (here : placeOf (c .setup .pages) o k .0 / 256 ≡ q .0) where
   -- A page of a span grants the right that the operation needs,
-  span-grants : isBankErase o ≡ false → grants (rightsOfPage (c .setup) q) (rightNeeded o) ≡ true
+  pub span-grants : isBankErase o ≡ false → grants (rightsOfPage (c .setup) q) (rightNeeded o) ≡ true
   span-grants b =
       let checks = accepted-passes (c .setup) o passed in
       rw here at (place-granted (c .setup) o k (checks .1) b (pages-bound c h .0) (checks .0) some)

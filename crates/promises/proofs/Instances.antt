@@ -21,7 +21,7 @@ use Rattle.model.specs.declared.Operation.{Operation}
 use Rattle.model.specs.declared.Work.the-variants.{Read}
 use Rattle.model.specs.declared.Progress.the-variants.{Running}
 use Rattle.promises.specs.Calls.{Call, State, Shaped, SetRegion, Initialise, Start, Step, Push, Whole, perform, run}
-use Rattle.promises.specs.Confined.{protected, protectedAlong, bitOf}
+use Rattle.promises.specs.Confined.{protected, erasable, programmable, unerasedAlong, unprogrammedAlong, protectedAlong, bitOf}
 use Rattle.promises.specs.Counted.{wordsLeft}
 use Rattle.promises.specs.Unknown.{stateOf}
 
@@ -57,6 +57,10 @@ pub record Met : Type 0 where
   pub ours : valid (fresh .controller) ≡ true
   -- `Confined`: page 1 is protected along calls that erase a word of page 0
   pub guarded : protectedAlong (record { 0 = 1 }) fresh (calls erase ++ (Step ∷ [])) ≡ true
+  -- `NoneRises`, `NoneFalls`: along the same calls page 1 is neither erased nor programmed, and its first bit is 1
+  pub unerased : unerasedAlong (record { 0 = 1 }) fresh (calls erase ++ (Step ∷ [])) ≡ true
+  pub unprogrammed : unprogrammedAlong (record { 0 = 1 }) fresh (calls erase ++ (Step ∷ [])) ≡ true
+  pub bit-of-page-1 : bitOf (fresh .flash) 256 0 ≡ 1
   -- `ExactlyItsWords`: the erase has 256 words left, and the image fits
   pub left : wordsLeft (reached erase .controller) ≡ 256
   pub fits : validWith (reached erase .controller) (reached erase .flash) ≡ true
@@ -76,11 +80,14 @@ pub record Met : Type 0 where
   pub blank : reached read .controller .progress ≡ Running (Read read 0 0)
 
 pub met : Met
-unfolding imagePage wordAt programmed totalWords placeOf held queueOf pushed oldest popped leading dataRights rightsAt allowedWords denied readableWords malformed outOfRange crossesWindow operationAnswer settingsFit workFits runningFits valid flashFits validWith recorded configured setRegion initialiseAnswer initialise startAnswer start pushAnswer push stalls advance stepProgress step popAnswer pop turn turns wholeAnswer drive whole perform rightsOfPage protected
+unfolding imagePage wordAt programmed totalWords placeOf held queueOf pushed oldest popped leading dataRights rightsAt allowedWords denied readableWords malformed outOfRange crossesWindow operationAnswer settingsFit workFits runningFits valid flashFits validWith recorded configured setRegion initialiseAnswer initialise startAnswer start pushAnswer push stalls advance stepProgress step popAnswer pop turn turns wholeAnswer drive whole perform rightsOfPage protected erasable programmable
 met = record {
   shaped = record { regions = refl; info = refl; erase = refl; reads = refl; programs = refl };
   ours = refl;
   guarded = refl;
+  unerased = refl;
+  unprogrammed = refl;
+  bit-of-page-1 = refl;
   left = refl;
   fits = refl;
   low = refl;

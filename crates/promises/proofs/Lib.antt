@@ -17,5 +17,6 @@ pub mod UnknownProof
 pub mod CountedProof
 pub mod RisesProof
 pub mod ConfinedProof
+pub mod OneWayProof
 -- their premises can be met
 pub mod Instances

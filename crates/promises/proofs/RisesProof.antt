@@ -34,7 +34,7 @@ never : {b : ℕ} → b ≡ 0 → b ≡ 1 → ⊥
 never h i = omega arith
 
 -- Programming keeps a 0 bit 0,
-programmed-zero : (old new bit : ℕ) → old / 2 ^ bit % 2 ≡ 0 → programmed old new / 2 ^ bit % 2 ≡ 0
+pub programmed-zero : (old new bit : ℕ) → old / 2 ^ bit % 2 ≡ 0 → programmed old new / 2 ^ bit % 2 ≡ 0
 programmed-zero old new bit h =
     let a : ℕ = old / 2 ^ bit % 2 in
     let b : ℕ = new / 2 ^ bit % 2 in

@@ -1,12 +1,12 @@
 -- Confinement: a page that may be neither programmed nor erased keeps every word, and a 0 bit becomes 1 only by an erase
 -- or RMA that covers it.
-use Prim.Native.Nat.{ℕ, zero, suc, _/_, _%_, _^_}
+use Prim.Native.Nat.{ℕ, zero, suc, _/_, _%_, _^_, _<_}
 use mathlib.Core.Path.{_≡_}
 use mathlib.Core.Bool.{Bool, true, false, _&&_, _||_, not}
 use mathlib.Core.List.{List, [], _∷_}
 use lib.Dec.{eqb}
 use lib.ListN.{getD}
-use Rattle.model.specs.Geometry.{bankOfPage}
+use Rattle.model.specs.Geometry.{bankOfPage, imagePageOf}
 use Rattle.model.specs.Kinds.{isPageErase, isBankErase, programRight, eraseRight}
 use Rattle.model.specs.Places.{totalWords, placeOf}
 use Rattle.model.specs.State.{Flash}
@@ -105,3 +105,34 @@ abbrev pub RisesByErase : Type 0
 RisesByErase =
     (s : State) (k : Call) (place bit : ℕ) → bitOf (s .flash) place bit ≡ 0 → bitOf (perform s k .state .flash) place bit ≡ 1
     → erasesPlace (s .controller) k place ≡ true
+
+-- ---- a page with one of the two rights: its bits go one way only
+
+-- The page may be erased: it has the erase right, or its bank's erase permission is on.
+unfoldable pub erasable : Setup → ImagePage → Bool
+erasable s q = getD (s .settings .erase) (bankOfPage (s .pages) q) false || grants (rightsOfPage s q) eraseRight
+
+unfoldable pub programmable : Setup → ImagePage → Bool
+programmable s q = grants (rightsOfPage s q) programRight
+
+-- The page may not be erased at any call of the list, and none of them is RMA: no bit of it rises.
+abbrev pub unerasedAlong : ImagePage → State → List Call → Bool
+unerasedAlong q s [] = true
+unerasedAlong q s (k ∷ ks) = (not (erasable (s .controller .setup) q) && not (isRma k)) && unerasedAlong q (perform s k .state) ks
+
+abbrev pub NoneRises : Type 0
+NoneRises =
+    (s : State) (ks : List Call) (place bit : ℕ) → Shaped (s .controller) → valid (s .controller) ≡ true
+    → unerasedAlong (imagePageOf (record { 0 = place })) s ks ≡ true → bitOf (s .flash) place bit ≡ 0
+    → bitOf (run s ks .flash) place bit ≡ 0
+
+-- The page may not be programmed at any call of the list: no bit of its 32-bit words falls, even by RMA.
+abbrev pub unprogrammedAlong : ImagePage → State → List Call → Bool
+unprogrammedAlong q s [] = true
+unprogrammedAlong q s (k ∷ ks) = not (programmable (s .controller .setup) q) && unprogrammedAlong q (perform s k .state) ks
+
+abbrev pub NoneFalls : Type 0
+NoneFalls =
+    (s : State) (ks : List Call) (place bit : ℕ) → Shaped (s .controller) → valid (s .controller) ≡ true
+    → unprogrammedAlong (imagePageOf (record { 0 = place })) s ks ≡ true → bit < 32 → bitOf (s .flash) place bit ≡ 1
+    → bitOf (run s ks .flash) place bit ≡ 1

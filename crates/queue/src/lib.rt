@@ -3,7 +3,7 @@ ghost use mathlib.Core.Path.{_≡_};
 ghost use Prim.Native.Nat.{_+_, _-_, _<_, _≤_};
 ghost use mathlib.Core.List.{_++_};
 ghost use lib.ListN.{take, drop, replicate};
-ghost use Rattle.model.specs.Queue.{emptyQueue, isEmpty, isFull, pushed, oldest, popped};
+ghost use Rattle.model.specs.Queue.{emptyQueue, isFull, pushed, oldest, popped};
 use model::Queue;
 
 pub fn empty() -> Queue
@@ -13,12 +13,6 @@ pub fn empty() -> Queue
         words: [0u32; 16],
         len: 0,
     }
-}
-
-pub fn is_empty(q: Queue) -> bool
-    ensures { λ r. ⌜ r ≡ isEmpty q ⌝ }
-{
-    q.len == 0
 }
 
 pub fn is_full(q: Queue) -> bool

@@ -1,14 +1,12 @@
-// Push and pop: an operation's words go in and out through the queues.
+// Push and pop: an operation's words go in and out through the queues, on registers.
 ghost use mathlib.Core.Path.{_≡_};
 ghost use Prim.Native.Nat.{_+_};
 ghost use lib.Dec.{leb};
-ghost use Rattle.model.specs.Steps.{push, popAnswer, pop};
-use model::Answer;
-use model::Controller;
-use model::Fetched;
-use model::Outcome;
+ghost use Rattle.calls.specs.Calls.{pushIn, popIn};
+use calls::ToldWord;
 use model::Progress;
 use model::Work;
+use registers::Registers;
 
 // ---- push
 
@@ -19,68 +17,49 @@ fn pushed_all(count: u32, moved: u32, queued: u32) -> bool
     count as usize <= moved as usize + queued as usize
 }
 
-pub fn push(c: Controller, word: u32) -> Outcome
-    ensures { λ r. ⌜ r ≡ push c word ⌝ }
+// Checks 1, 2, 3, 12 and 11.
+pub fn push(s: &mut Registers, word: u32) -> u32
+    ensures { λ r. ⌜ record { told = r; registers = now (s .exit) } ≡ pushIn (now (s .entry)) word ⌝ }
 {
-    let phase = c.phase;
-    let ready = refusals::ready_answer(validity::valid(c), phase);
+    let ready = validity::ready(s);
     if !refusals::accepts(ready) {
-        return operations::refused(c, ready);
+        return calls::number(ready);
     }
-    let progress = c.progress;
+    let progress = registers::progress(s);
     let Progress::Running(work) = progress else {
-        return operations::refused(c, Answer::Unexpected);
+        return 12;
     };
     let Work::Program { op, moved } = work else {
-        return operations::refused(c, Answer::Unexpected);
+        return 12;
     };
-    let queues = c.queues;
-    let programs = queues.programs;
+    let programs = registers::programs(s);
     if pushed_all(op.count, moved, programs.len) {
-        return operations::refused(c, Answer::Unexpected);
+        return 12;
     }
     if queue::is_full(programs) {
-        return operations::refused(c, Answer::QueueFull);
+        return 11;
     }
-    let queued = state::with_programs(queues, queue::push(programs, word));
-    Outcome {
-        controller: state::with_queues(c, queued),
-        answer: Answer::Accepted,
-    }
+    registers::put_programs(s, queue::push(programs, word));
+    0
 }
 
 // ---- pop
 
-fn pop_answer(c: Controller) -> Answer
-    ensures { λ r. ⌜ r ≡ popAnswer c ⌝ }
+// Checks 1 and 10.
+pub fn pop(s: &mut Registers) -> ToldWord
+    ensures { λ r. ⌜ record { told = r; registers = now (s .exit) } ≡ popIn (now (s .entry)) ⌝ }
 {
-    let queues = c.queues;
-    let reads = queues.reads;
-    let first = refusals::check(!validity::valid(c), Answer::Invalid);
-    refusals::or_else(
-        first,
-        refusals::check(queue::is_empty(reads), Answer::QueueEmpty),
-    )
-}
-
-pub fn pop(c: Controller) -> Fetched
-    ensures { λ r. ⌜ r ≡ pop c ⌝ }
-{
-    let answer = pop_answer(c);
-    if !refusals::accepts(answer) {
-        return Fetched {
-            controller: c,
-            answer,
+    if !validity::valid(s) {
+        return ToldWord { answer: 1, word: 0 };
+    }
+    if registers::read_count(s) == 0 {
+        return ToldWord {
+            answer: 10,
             word: 0,
         };
     }
-    let queues = c.queues;
-    let reads = queues.reads;
+    let reads = registers::reads(s);
     let word = queue::oldest(reads);
-    let next = state::with_reads(queues, queue::pop(reads));
-    Fetched {
-        controller: state::with_queues(c, next),
-        answer,
-        word,
-    }
+    registers::put_reads(s, queue::pop(reads));
+    ToldWord { answer: 0, word }
 }

@@ -1,11 +1,13 @@
-// Answers by number, and chains of checks: the first that applies answers.
+// Answers by number, chains of checks (the first that applies answers), and the error record.
 ghost use mathlib.Core.Path.{_≡_};
-ghost use Rattle.model.specs.Errors.{isRecorded};
-ghost use Rattle.model.specs.Refusals.{numberOf, accepts, isDenied, check, orElse, phaseAnswer, readyAnswer, settle};
+ghost use Rattle.model.specs.Errors.{isRecorded, recorded};
+ghost use Rattle.model.specs.Refusals.{numberOf, accepts, isDenied, check, orElse, phaseAnswer, readyAnswer};
+ghost use Rattle.model.specs.State.{isReady, isBusy, noErrors};
 use model::Answer;
-use model::Controller;
-use model::Outcome;
+use model::ByteAddress;
+use model::Errors;
 use model::Phase;
+use model::Progress;
 
 // The answer's number in document 01; 0 if nothing was refused.
 pub fn number_of(a: Answer) -> u8
@@ -62,6 +64,27 @@ pub fn or_else(a: Answer, b: Answer) -> Answer
     if accepts(a) { b } else { a }
 }
 
+// ---- the phase, and what is in progress
+
+pub fn is_ready(p: Phase) -> bool
+    ensures { λ r. ⌜ r ≡ isReady p ⌝ }
+{
+    match p {
+        Phase::Uninitialised => false,
+        Phase::Ready => true,
+        Phase::Disabled => false,
+    }
+}
+
+pub fn is_busy(p: Progress) -> bool
+    ensures { λ r. ⌜ r ≡ isBusy p ⌝ }
+{
+    match p {
+        Progress::Idle => false,
+        Progress::Running(_) => true,
+    }
+}
+
 // Check 2 or 3 of a phase.
 pub fn phase_answer(p: Phase) -> Answer
     ensures { λ r. ⌜ r ≡ phaseAnswer p ⌝ }
@@ -81,19 +104,37 @@ pub fn ready_answer(valid: bool, p: Phase) -> Answer
     or_else(check(!valid, Answer::Invalid), phase)
 }
 
-// The next state if the call is accepted, else the state as it was.
-pub fn settle(c: Controller, next: Controller, answer: Answer) -> Outcome
-    ensures { λ r. ⌜ r ≡ settle c next answer ⌝ }
+// ---- the error record
+
+pub fn no_errors() -> Errors
+    ensures { λ r. ⌜ r ≡ noErrors ⌝ }
 {
-    if accepts(answer) {
-        Outcome {
-            controller: next,
-            answer,
-        }
-    } else {
-        Outcome {
-            controller: c,
-            answer,
-        }
+    Errors {
+        malformed: false,
+        range: false,
+        window: false,
+        denied: false,
+        address: ByteAddress(0),
     }
+}
+
+// Refusals 5, 7, 8 and 9 join the record, with their address.
+pub fn recorded(answer: Answer, address: ByteAddress, e: Errors) -> Errors
+    ensures { λ r. ⌜ r ≡ recorded answer address e ⌝ }
+{
+    let n = number_of(answer);
+    let malformed = n == 5;
+    let range = n == 7;
+    let window = n == 8;
+    let denied = n == 9;
+    if is_recorded(n) {
+        return Errors {
+            malformed: e.malformed | malformed,
+            range: e.range | range,
+            window: e.window | window,
+            denied: e.denied | denied,
+            address,
+        };
+    }
+    e
 }

@@ -1,93 +1,98 @@
-// The inputs, the settings, and clearing the error record: calls that change the controller's parts and lend no image.
+// The inputs, the settings, and clearing the error record, on registers: calls that are lent no image.
 ghost use mathlib.Core.Path.{_≡_};
-ghost use Rattle.model.specs.Settings.{settingAnswer, setInputs, configured, setRegion, setDefault, setInfo, setErase};
-ghost use Rattle.model.specs.Errors.{clear};
+ghost use Rattle.model.specs.Settings.{settingAnswer};
+ghost use Rattle.registers.specs.Registers.{decode};
+ghost use Rattle.calls.specs.Calls.{setInputsIn, setRegionIn, setDefaultIn, setInfoIn, setEraseIn, clearIn};
 use model::Answer;
-use model::Controller;
 use model::Inputs;
-use model::Outcome;
 use model::PageSetting;
 use model::Region;
-use model::Settings;
+use registers::Registers;
 
-// Checks 1, 4 and 13, in this order.
-fn setting_answer(c: Controller, fits: bool) -> Answer
-    ensures { λ r. ⌜ r ≡ settingAnswer c fits ⌝ }
+// Checks 1, 4 and 13, in this order: what is in progress is looked at in a valid state only.
+fn setting_answer(s: &Registers, fits: bool) -> Answer
+    ensures { λ r. ⌜ r ≡ settingAnswer (decode (now (s .entry))) fits ⌝ }
 {
-    let progress = c.progress;
-    let first = refusals::check(!validity::valid(c), Answer::Invalid);
-    let second = refusals::check(state::is_busy(progress), Answer::Busy);
-    let third = refusals::check(!fits, Answer::BadSetting);
-    refusals::or_else(first, refusals::or_else(second, third))
+    if !validity::valid(s) {
+        return Answer::Invalid;
+    }
+    let progress = registers::progress(s);
+    let busy = refusals::check(refusals::is_busy(progress), Answer::Busy);
+    let bad = refusals::check(!fits, Answer::BadSetting);
+    refusals::or_else(busy, bad)
 }
 
 // The life-cycle inputs: provision enable, and seeds locked. They are no setting.
-pub fn set_inputs(c: Controller, inputs: Inputs) -> Outcome
-    ensures { λ r. ⌜ r ≡ setInputs c inputs ⌝ }
+pub fn set_inputs(s: &mut Registers, inputs: Inputs) -> u32
+    ensures { λ r. ⌜ record { told = r; registers = now (s .exit) } ≡ setInputsIn (now (s .entry)) inputs ⌝ }
 {
-    let answer = setting_answer(c, true);
-    let next = state::with_inputs(c, inputs);
-    refusals::settle(c, next, answer)
-}
-
-// Every setting: accepted, these are the settings; refused, nothing changes.
-fn configured(c: Controller, settings: Settings, fits: bool) -> Outcome
-    ensures { λ r. ⌜ r ≡ configured c settings fits ⌝ }
-{
-    let answer = setting_answer(c, fits);
-    let next = state::with_settings(c, settings);
-    refusals::settle(c, next, answer)
+    let answer = setting_answer(s, true);
+    if !refusals::accepts(answer) {
+        return calls::number(answer);
+    }
+    registers::put_inputs(s, inputs);
+    0
 }
 
 // A region, by its number 0 to 7.
-pub fn set_region(c: Controller, number: u32, g: Region) -> Outcome
-    ensures { λ r. ⌜ r ≡ setRegion c number g ⌝ }
+pub fn set_region(s: &mut Registers, number: u32, g: Region) -> u32
+    ensures { λ r. ⌜ record { told = r; registers = now (s .exit) } ≡ setRegionIn (now (s .entry)) number g ⌝ }
 {
-    let setup = c.setup;
-    let settings = setup.settings;
-    let fits = bounds::region_fits(setup.pages, g);
-    let next = tables::with_region(settings, number as usize, g);
-    configured(c, next, (number < 8) & fits)
+    let fits = bounds::region_fits(registers::pages(s), g);
+    let answer = setting_answer(s, (number < 8) & fits);
+    if !refusals::accepts(answer) {
+        return calls::number(answer);
+    }
+    registers::put_region(s, number as usize, g);
+    0
 }
 
 // The rights of the data pages that no region decides.
-pub fn set_default(c: Controller, rights: u8) -> Outcome
-    ensures { λ r. ⌜ r ≡ setDefault c rights ⌝ }
+pub fn set_default(s: &mut Registers, rights: u8) -> u32
+    ensures { λ r. ⌜ record { told = r; registers = now (s .exit) } ≡ setDefaultIn (now (s .entry)) rights ⌝ }
 {
-    let setup = c.setup;
-    let settings = setup.settings;
-    let next = tables::with_default(settings, rights);
-    configured(c, next, bounds::rights_fit(rights))
+    let answer = setting_answer(s, bounds::rights_fit(rights));
+    if !refusals::accepts(answer) {
+        return calls::number(answer);
+    }
+    registers::put_default(s, rights);
+    0
 }
 
 // An information page, by its bank, its type and its number in the type.
-pub fn set_info(c: Controller, bank: u32, t: u8, page: u32, p: PageSetting) -> Outcome
-    ensures { λ r. ⌜ r ≡ setInfo c bank t page p ⌝ }
+pub fn set_info(s: &mut Registers, bank: u32, t: u8, page: u32, p: PageSetting) -> u32
+    ensures { λ r. ⌜ record { told = r; registers = now (s .exit) } ≡ setInfoIn (now (s .entry)) bank t page p ⌝ }
 {
-    let setup = c.setup;
-    let settings = setup.settings;
-    let exists = tables::info_exists(bank, t, page);
+    let exists = bounds::info_exists(bank, t, page);
     let fits = bounds::page_fits(p);
+    let answer = setting_answer(s, exists & fits);
+    if !refusals::accepts(answer) {
+        return calls::number(answer);
+    }
     let index = geometry::info_index(bank, t, page);
-    let next = tables::with_page(settings, index, p);
-    configured(c, next, exists & fits)
+    registers::put_page(s, index, p);
+    0
 }
 
 // A bank's erase permission.
-pub fn set_erase(c: Controller, bank: u32, on: bool) -> Outcome
-    ensures { λ r. ⌜ r ≡ setErase c bank on ⌝ }
+pub fn set_erase(s: &mut Registers, bank: u32, on: bool) -> u32
+    ensures { λ r. ⌜ record { told = r; registers = now (s .exit) } ≡ setEraseIn (now (s .entry)) bank on ⌝ }
 {
-    let setup = c.setup;
-    let settings = setup.settings;
-    let next = tables::with_erase(settings, bank as usize, on);
-    configured(c, next, bank < 2)
+    let answer = setting_answer(s, bank < 2);
+    if !refusals::accepts(answer) {
+        return calls::number(answer);
+    }
+    registers::put_permission(s, bank as usize, on);
+    0
 }
 
 // Clears the error record: the kinds and the last address.
-pub fn clear(c: Controller) -> Outcome
-    ensures { λ r. ⌜ r ≡ clear c ⌝ }
+pub fn clear(s: &mut Registers) -> u32
+    ensures { λ r. ⌜ record { told = r; registers = now (s .exit) } ≡ clearIn (now (s .entry)) ⌝ }
 {
-    let answer = refusals::check(!validity::valid(c), Answer::Invalid);
-    let next = state::with_errors(c, state::no_errors());
-    refusals::settle(c, next, answer)
+    if !validity::valid(s) {
+        return calls::number(Answer::Invalid);
+    }
+    registers::put_errors(s, refusals::no_errors());
+    0
 }

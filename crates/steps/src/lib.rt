@@ -1,28 +1,154 @@
-// Step: one word of the operation in progress moves.
+// Step on registers: one word of the operation in progress moves.
 ghost use mathlib.Core.Path.{_≡_};
+ghost use mathlib.Core.Bool.{cond};
+ghost use Prim.Native.Nat.{_+_, _<_};
+ghost use lib.Dec.{ltb};
+ghost use lib.ListN.{length};
 ghost use Rattle.model.specs.State.{flash};
-ghost use Rattle.model.specs.Steps.{step};
+ghost use Rattle.model.specs.Refusals.{numberOf};
+ghost use Rattle.model.specs.Words.{allOnes};
+ghost use Rattle.model.specs.Steps.{stalls, delivered, advance};
+ghost use Rattle.registers.specs.Registers.{standsFor};
+ghost use Rattle.calls.specs.Calls.{movementNumber, stepLeft, stepIn};
+ghost use Rattle.steps.specs.Stepping.{Moves, toldMoved, registersMoved};
+use calls::ToldStep;
 use model::Answer;
-use model::Controller;
+use model::BusWord;
 use model::Movement;
+use model::Operation;
 use model::Progress;
-use model::Stepped;
+use model::Work;
+use registers::Registers;
 
-pub fn step(c: Controller, image: &mut [u32]) -> Stepped
-    ensures { λ r. ⌜ record { result = r; flash = flash (now (image .exit)) } ≡ step c (flash (now (image .entry))) ⌝ }
+// No word moves.
+fn still(answer: Answer, movement: Movement) -> ToldStep
+    ensures { λ r. ⌜ r ≡ record { answer = numberOf answer; movement = movementNumber movement; bits = 0 } ⌝ }
 {
-    let phase = c.phase;
-    let ready = refusals::ready_answer(validity::valid_with(c, image), phase);
+    let number = calls::number(answer);
+    let moved = calls::movement_number(movement);
+    ToldStep {
+        answer: number,
+        movement: moved,
+        bits: 0,
+    }
+}
+
+// Word `k` of `n` has moved: what is now in progress.
+fn moved(s: &mut Registers, n: usize, k: u32, bits: u32) -> ToldStep
+    requires { ⌜ k + 1 < 4294967296 ⌝ }
+    ensures { λ r. ⌜ r ≡ toldMoved n k bits ⌝ }
+    ensures { λ _. ⌜ now (s .exit) ≡ registersMoved (now (s .entry)) n k ⌝ }
+{
+    if k as usize + 1 == n {
+        registers::no_progress(s);
+        return ToldStep {
+            answer: 0,
+            movement: 2,
+            bits,
+        };
+    }
+    registers::put_moved(s, k + 1);
+    ToldStep {
+        answer: 0,
+        movement: 1,
+        bits,
+    }
+}
+
+// Whether a step would wait.
+fn stalls(s: &Registers, w: Work) -> bool
+    ensures { λ r. ⌜ r ≡ stalls (standsFor (now (s .entry)) .queues) w ⌝ }
+{
+    match w {
+        Work::Read { .. } => 16 <= registers::read_count(s),
+        Work::Program { .. } => registers::program_count(s) == 0,
+        Work::Erase { .. } => false,
+    }
+}
+
+// The word that a read delivers next: the stored one, or ones where it is not readable.
+fn read_word(image: &[u32], place: BusWord, k: u32, readable: u32) -> u32
+    requires { ⌜ place .0 < length (now image) ⌝ }
+    ensures { λ r. ⌜ r ≡ cond (ltb k readable) (delivered (flash (now (image .entry))) place) allOnes ⌝ }
+{
+    let at = place.0 as usize;
+    if k < readable {
+        return image[at];
+    }
+    0xFFFF_FFFF
+}
+
+// Of a read, the next word goes to the read queue.
+fn advance_read(s: &mut Registers, image: &[u32], op: Operation, k: u32, readable: u32) -> ToldStep
+    requires { ⌜ Moves (now s) (flash (now image)) (Work.Read op k readable) ⌝ }
+    ensures { λ r. ⌜ record { told = r; registers = now (s .exit); flash = flash (now (image .entry)) } ≡ stepLeft (now (s .entry)) (advance (standsFor (now (s .entry))) (flash (now (image .entry))) (Work.Read op k readable)) ⌝ }
+{
+    let d = registers::pages(s);
+    let n = places::total_words(d, op);
+    let place = places::place_of(d, op, k);
+    let word = read_word(image, place, k, readable);
+    let reads = registers::reads(s);
+    registers::put_reads(s, queue::push(reads, word));
+    moved(s, n, k, 0)
+}
+
+// Of a program, the oldest queued word is combined with the stored one.
+fn advance_program(s: &mut Registers, image: &mut [u32], op: Operation, k: u32) -> ToldStep
+    requires { ⌜ Moves (now s) (flash (now image)) (Work.Program op k) ⌝ }
+    ensures { λ r. ⌜ record { told = r; registers = now (s .exit); flash = flash (now (image .exit)) } ≡ stepLeft (now (s .entry)) (advance (standsFor (now (s .entry))) (flash (now (image .entry))) (Work.Program op k)) ⌝ }
+{
+    let d = registers::pages(s);
+    let n = places::total_words(d, op);
+    let place = places::place_of(d, op, k);
+    let programs = registers::programs(s);
+    let word = queue::oldest(programs);
+    let bits = words::program_word(image, place, word);
+    registers::put_programs(s, queue::pop(programs));
+    moved(s, n, k, bits)
+}
+
+// Of an erase, the stored word becomes all ones.
+fn advance_erase(s: &mut Registers, image: &mut [u32], op: Operation, k: u32) -> ToldStep
+    requires { ⌜ Moves (now s) (flash (now image)) (Work.Erase op k) ⌝ }
+    ensures { λ r. ⌜ record { told = r; registers = now (s .exit); flash = flash (now (image .exit)) } ≡ stepLeft (now (s .entry)) (advance (standsFor (now (s .entry))) (flash (now (image .entry))) (Work.Erase op k)) ⌝ }
+{
+    let d = registers::pages(s);
+    let n = places::total_words(d, op);
+    let place = places::place_of(d, op, k);
+    let bits = words::erase_word(image, place);
+    moved(s, n, k, bits)
+}
+
+// One word moves, at the operation's next place.
+fn advance(s: &mut Registers, image: &mut [u32], w: Work) -> ToldStep
+    requires { ⌜ Moves (now s) (flash (now image)) w ⌝ }
+    ensures { λ r. ⌜ record { told = r; registers = now (s .exit); flash = flash (now (image .exit)) } ≡ stepLeft (now (s .entry)) (advance (standsFor (now (s .entry))) (flash (now (image .entry))) w) ⌝ }
+{
+    match w {
+        Work::Read {
+            op,
+            moved,
+            readable,
+        } => advance_read(s, image, op, moved, readable),
+        Work::Program { op, moved } => advance_program(s, image, op, moved),
+        Work::Erase { op, moved } => advance_erase(s, image, op, moved),
+    }
+}
+
+// Checks 1, 2, 3 and 12.
+pub fn step(s: &mut Registers, image: &mut [u32]) -> ToldStep
+    ensures { λ r. ⌜ record { told = r; registers = now (s .exit); flash = flash (now (image .exit)) } ≡ stepIn (now (s .entry)) (flash (now (image .entry))) ⌝ }
+{
+    let ready = validity::ready_with(s, image);
     if !refusals::accepts(ready) {
-        return movement::still(c, ready, Movement::None);
+        return still(ready, Movement::None);
     }
-    let progress = c.progress;
+    let progress = registers::progress(s);
     let Progress::Running(work) = progress else {
-        return movement::still(c, Answer::Unexpected, Movement::None);
+        return still(Answer::Unexpected, Movement::None);
     };
-    let queues = c.queues;
-    if movement::stalls(queues, work) {
-        return movement::still(c, Answer::Accepted, Movement::Stalled);
+    if stalls(s, work) {
+        return still(Answer::Accepted, Movement::Stalled);
     }
-    advances::advance(c, image, work)
+    advance(s, image, work)
 }

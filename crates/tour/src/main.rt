@@ -1,15 +1,28 @@
 // A small controller, D = 10, through the public calls: what each answers, one line a call.
+use calls::ToldStep;
+use calls::ToldWord;
 use libc::STDOUT_FILENO;
-use model::Answer;
 use model::ByteAddress;
-use model::Controller;
-use model::Fetched;
 use model::Operation;
-use model::Outcome;
 use model::Page;
 use model::PageSetting;
 use model::Region;
-use model::Stepped;
+use registers::Registers;
+
+// D, and the words of its image.
+const PAGES: u32 = 10;
+
+const WORDS: usize = 11776;
+
+const PAGE_WORDS: usize = 256;
+
+const READ: u8 = 0;
+
+const PROGRAM: u8 = 1;
+
+const PAGE_ERASE: u8 = 2;
+
+// ---- lines
 
 fn text(words: &[u8]) {
     io::write_all(STDOUT_FILENO, words);
@@ -24,125 +37,139 @@ fn word(w: u32) {
     io::print_hex(STDOUT_FILENO, w as u64, 8);
 }
 
-// The name of a call, and the number of its answer.
-fn told(name: &[u8], answer: Answer) {
+// The name of a call, and its answer.
+fn told(name: &[u8], answer: u32) {
     text(name);
     text(b" ");
-    number(refusals::number_of(answer) as u64);
+    number(answer as u64);
 }
 
-fn line(name: &[u8], r: Outcome) -> Controller {
-    let answer = r.answer;
+fn line(name: &[u8], answer: u32) {
     told(name, answer);
     text(b"\n");
-    r.controller
 }
 
-fn fetched(name: &[u8], r: Fetched) -> Controller {
-    let answer = r.answer;
-    told(name, answer);
+fn fetched(name: &[u8], r: ToldWord) {
+    told(name, r.answer);
     word(r.word);
     text(b"\n");
-    r.controller
 }
 
-fn stepped(r: Stepped) -> Controller {
-    let answer = r.answer;
-    told(b"step", answer);
+fn stepped(r: ToldStep) {
+    told(b"step", r.answer);
     text(b" ");
     number(r.bits as u64);
     text(b" bits\n");
-    r.controller
 }
 
-fn operation(kind: u8, address: u32, count: u32) -> Operation {
-    Operation {
+// ---- calls
+
+fn start(s: &mut Registers, name: &[u8], kind: u8, address: u32, count: u32) {
+    let o = Operation {
         kind,
         partition: 0,
         info: 0,
         address: ByteAddress(address),
         count,
-    }
+    };
+    line(name, operations::start(s, o));
 }
 
-// Reset, rights for pages 0 to 3 only, initialise.
-fn made(image: &[u32]) -> Controller {
-    let c = line(b"reset", resetting::reset(resetting::fresh(0), 10));
+fn push(s: &mut Registers, word: u32) {
+    line(b"push", queueing::push(s, word));
+}
+
+fn pop(s: &mut Registers) {
+    fetched(b"pop", queueing::pop(s));
+}
+
+fn two_steps(s: &mut Registers, image: &mut [u32]) {
+    stepped(steps::step(s, image));
+    stepped(steps::step(s, image));
+}
+
+// ---- the walk
+
+// Rights for pages 0 to 3 only, and to read an information page.
+fn set_rights(s: &mut Registers) {
     let pages = Region {
         on: true,
         first: Page(0),
         count: 4,
         rights: 7,
     };
-    let c = line(b"set region", settings::set_region(c, 0, pages));
+    line(b"set region", settings::set_region(s, 0, pages));
     let page = PageSetting {
         on: true,
         rights: 1,
     };
-    let c = line(
+    line(
         b"set information page",
-        settings::set_info(c, 1, 2, 1, page),
+        settings::set_info(s, 1, 2, 1, page),
     );
-    let r = lifecycle::initialise(c, image);
-    let answer = r.answer;
-    told(b"initialise", answer);
-    text(b"\n");
-    r.controller
 }
 
-// Two words are programmed at the end of page 0's first window, read back, and read by the host.
-fn programmed(c: Controller, image: &mut [u32]) -> Controller {
-    let c = line(
-        b"start program",
-        operations::start(c, operation(1, 0x38, 2)),
-    );
-    let c = line(b"push", queueing::push(c, 0x1234_5678));
-    let c = line(b"push", queueing::push(c, 0xFFFF_0000));
-    let c = line(b"push", queueing::push(c, 0));
-    let c = stepped(steps::step(c, image));
-    let c = stepped(steps::step(c, image));
-    let c = line(b"start read", operations::start(c, operation(0, 0x38, 2)));
-    let c = stepped(steps::step(c, image));
-    let c = stepped(steps::step(c, image));
-    let c = fetched(b"pop", queueing::pop(c));
-    let c = fetched(b"pop", queueing::pop(c));
-    let c = fetched(b"pop", queueing::pop(c));
-    fetched(b"host read", host::host_read(c, image, ByteAddress(0x38)))
+fn made(s: &mut Registers, image: &[u32]) {
+    line(b"reset", lifecycle::reset(s, PAGES));
+    set_rights(s);
+    let r = lifecycle::initialise(s, image);
+    line(b"initialise", r.answer);
 }
 
-// A page is erased word by word: the sum of the bits.
-fn erased(c: Controller, image: &mut [u32]) -> Controller {
-    let mut now = line(
-        b"start page erase",
-        operations::start(c, operation(2, 0x3FC, 0)),
-    );
+// Two words are programmed at the end of page 0's first window.
+fn programmed(s: &mut Registers, image: &mut [u32]) {
+    start(s, b"start program", PROGRAM, 0x38, 2);
+    push(s, 0x1234_5678);
+    push(s, 0xFFFF_0000);
+    push(s, 0);
+    two_steps(s, image);
+}
+
+// They are read back, and read by the host.
+fn read(s: &mut Registers, image: &mut [u32]) {
+    start(s, b"start read", READ, 0x38, 2);
+    two_steps(s, image);
+    pop(s);
+    pop(s);
+    pop(s);
+    fetched(b"host read", host::host_read(s, image, ByteAddress(0x38)));
+}
+
+// One step for each word of a page: the sum of the bits.
+fn page_steps(s: &mut Registers, image: &mut [u32]) -> u64 {
     let mut bits: u64 = 0;
-    for i in 0..256usize {
-        let r = steps::step(now, image);
+    for i in 0..PAGE_WORDS {
+        let r = steps::step(s, image);
         bits = std::num::wrapping_add_u64(bits, r.bits as u64);
-        now = r.controller;
     }
-    text(b"256 steps ");
+    bits
+}
+
+// The words that were programmed are erased with their page.
+fn erased(s: &mut Registers, image: &mut [u32]) {
+    start(s, b"start page erase", PAGE_ERASE, 0x3FC, 0);
+    let bits = page_steps(s, image);
+    number(PAGE_WORDS as u64);
+    text(b" steps ");
     number(bits);
     text(b" bits\n");
-    now
 }
 
 // Page 4 has no rights, and there is no kind 9.
-fn refused(c: Controller) -> Controller {
-    let c = line(
-        b"start program on page 4",
-        operations::start(c, operation(1, 0x1000, 1)),
-    );
-    line(b"start kind 9", operations::start(c, operation(9, 0, 1)))
+fn refused(s: &mut Registers) {
+    start(s, b"start program on page 4", PROGRAM, 0x1000, 1);
+    start(s, b"start kind 9", 9, 0, 1);
 }
 
 fn main() {
-    let mut image = [0xFFFF_FFFFu32; 11776];
-    let c = made(&image);
-    let c = programmed(c, &mut image);
-    let c = refused(erased(c, &mut image));
-    let c = line(b"RMA", rma::rma(c, &mut image));
-    let c = line(b"start read", operations::start(c, operation(0, 0, 1)));
-    line(b"reset with 257 pages", resetting::reset(c, 257));
+    let mut image = [0xFFFF_FFFFu32; WORDS];
+    let mut s: Registers = [0u32; registers::COUNT];
+    made(&mut s, &image);
+    programmed(&mut s, &mut image);
+    read(&mut s, &mut image);
+    erased(&mut s, &mut image);
+    refused(&mut s);
+    line(b"RMA", lifecycle::rma(&mut s, &mut image));
+    start(&mut s, b"start read", READ, 0, 1);
+    line(b"reset with 257 pages", lifecycle::reset(&mut s, 257));
 }

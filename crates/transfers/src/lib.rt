@@ -1,4 +1,4 @@
-// The words of a whole operation, moved in order, without steps and queues, and the controller afterwards.
+// The words of a whole operation, moved in order, without steps and queues.
 ghost use mathlib.Core.Path.{_≡_};
 ghost use mathlib.Core.List.{_++_};
 ghost use Prim.Native.Nat.{_≤_};
@@ -6,20 +6,19 @@ ghost use lib.ListN.{length, drop, replicate};
 ghost use Rattle.model.specs.State.{flash};
 ghost use Rattle.model.specs.Words.{allOnes};
 ghost use Rattle.model.specs.Places.{totalWords};
-ghost use Rattle.plans.specs.Plan.{placesOf, deliveredAt, stored-all, changed-all, programming, erasing, readsDrained, programsDrained, withRecorded};
+ghost use Rattle.plans.specs.Plan.{placesOf, deliveredAt, stored-all, changed-all, programming, erasing};
+ghost use Rattle.registers.specs.Registers.{setupOf};
 ghost use Rattle.transfers.specs.Placed.{Placed};
-use model::Answer;
-use model::Controller;
 use model::Operation;
-use model::Setup;
+use registers::Registers;
 
 // A read puts the stored words into the first places of the buffer.
 pub fn read(d: u32, image: &[u32], o: Operation, buffer: &mut [u32])
     requires { ⌜ Placed d o (flash (now image)) × (totalWords d o ≤ length (now buffer)) ⌝ }
     ensures { λ _. ⌜ now (buffer .exit) ≡ deliveredAt (flash (now (image .entry))) (placesOf d o) ++ drop (length (placesOf d o)) (now (buffer .entry)) ⌝ }
 {
-    let n = places::total_words(d, o);
-    for k in 0..n {
+    let words = places::total_words(d, o);
+    for k in 0..words {
         let place = places::place_of(d, o, k as u32);
         buffer[k] = image[place.0 as usize];
     }
@@ -36,56 +35,33 @@ pub fn blank(buffer: &mut [u32], count: usize)
 }
 
 // A program combines each word of the buffer with the stored one. The answer is the number of bits changed.
-pub fn program(s: Setup, image: &mut [u32], o: Operation, buffer: &[u32]) -> u32
-    requires { ⌜ Placed (s .pages) o (flash (now image)) × (totalWords (s .pages) o ≤ length (now buffer)) ⌝ }
-    ensures { λ r. ⌜ r ≡ changed-all s (programming (now (buffer .entry))) 0 (placesOf (s .pages) o) (flash (now (image .entry))) ⌝ }
-    ensures { λ _. ⌜ flash (now (image .exit)) ≡ stored-all (programming (now (buffer .entry))) 0 (placesOf (s .pages) o) (flash (now (image .entry))) ⌝ }
+pub fn program(s: &Registers, image: &mut [u32], o: Operation, buffer: &[u32]) -> u32
+    requires { ⌜ Placed (setupOf (now s) .pages) o (flash (now image)) × (totalWords (setupOf (now s) .pages) o ≤ length (now buffer)) ⌝ }
+    ensures { λ r. ⌜ r ≡ changed-all (setupOf (now (s .entry))) (programming (now (buffer .entry))) 0 (placesOf (setupOf (now (s .entry)) .pages) o) (flash (now (image .entry))) ⌝ }
+    ensures { λ _. ⌜ flash (now (image .exit)) ≡ stored-all (programming (now (buffer .entry))) 0 (placesOf (setupOf (now (s .entry)) .pages) o) (flash (now (image .entry))) ⌝ }
 {
-    let n = places::total_words(s.pages, o);
+    let d = registers::pages(s);
+    let given = places::total_words(d, o);
     let mut bits: u32 = 0;
-    for k in 0..n {
-        let place = places::place_of(s.pages, o, k as u32);
+    for k in 0..given {
+        let place = places::place_of(d, o, k as u32);
         bits += words::program_word(image, place, buffer[k]);
     }
     bits
 }
 
 // An erase leaves ones.
-pub fn erase(s: Setup, image: &mut [u32], o: Operation) -> u32
-    requires { ⌜ Placed (s .pages) o (flash (now image)) ⌝ }
-    ensures { λ r. ⌜ r ≡ changed-all s erasing 0 (placesOf (s .pages) o) (flash (now (image .entry))) ⌝ }
-    ensures { λ _. ⌜ flash (now (image .exit)) ≡ stored-all erasing 0 (placesOf (s .pages) o) (flash (now (image .entry))) ⌝ }
+pub fn erase(s: &Registers, image: &mut [u32], o: Operation) -> u32
+    requires { ⌜ Placed (setupOf (now s) .pages) o (flash (now image)) ⌝ }
+    ensures { λ r. ⌜ r ≡ changed-all (setupOf (now (s .entry))) erasing 0 (placesOf (setupOf (now (s .entry)) .pages) o) (flash (now (image .entry))) ⌝ }
+    ensures { λ _. ⌜ flash (now (image .exit)) ≡ stored-all erasing 0 (placesOf (setupOf (now (s .entry)) .pages) o) (flash (now (image .entry))) ⌝ }
 {
-    let n = places::total_words(s.pages, o);
+    let d = registers::pages(s);
+    let total = places::total_words(d, o);
     let mut bits: u32 = 0;
-    for k in 0..n {
-        let place = places::place_of(s.pages, o, k as u32);
+    for k in 0..total {
+        let place = places::place_of(d, o, k as u32);
         bits += words::erase_word(image, place);
     }
     bits
-}
-
-// The queue that words would go through is left as steps leave it: empty, with zeros in its places.
-pub fn reads_drained(c: Controller) -> Controller
-    ensures { λ r. ⌜ r ≡ readsDrained c ⌝ }
-{
-    let queues = c.queues;
-    let reads = state::with_reads(queues, queue::empty());
-    state::with_queues(c, reads)
-}
-
-pub fn programs_drained(c: Controller) -> Controller
-    ensures { λ r. ⌜ r ≡ programsDrained c ⌝ }
-{
-    let queues = c.queues;
-    let programs = state::with_programs(queues, queue::empty());
-    state::with_queues(c, programs)
-}
-
-pub fn with_recorded(c: Controller, answer: Answer, o: Operation) -> Controller
-    ensures { λ r. ⌜ r ≡ withRecorded c answer o ⌝ }
-{
-    let address = o.address;
-    let errors = c.errors;
-    state::with_errors(c, state::recorded(answer, address, errors))
 }

@@ -1,21 +1,62 @@
-// Check 1: whether a state is valid (01: ours), and the image as long as D says.
+// Check 1 on the state where it lies: whether the numbers stand for a valid state (01: ours).
 ghost use mathlib.Core.Path.{_≡_};
-ghost use Prim.Native.Nat.{_+_};
-ghost use lib.Dec.{leb};
 ghost use Rattle.model.specs.State.{flash};
-ghost use Rattle.model.specs.Valid.{progressFits, workFits, runningFits, valid, validWith};
-use model::Controller;
+ghost use mathlib.Core.Bool.{_&&_};
+ghost use Prim.Native.Nat.{_+_};
+ghost use lib.ListN.{getD};
+ghost use lib.Dec.{leb};
+ghost use Rattle.model.specs.Refusals.{readyAnswer};
+ghost use Rattle.model.specs.Valid.{all, regionFits, pageFits, queuesFit, progressFits, workFits, runningFits, valid, validWith};
+ghost use Rattle.registers.specs.Layout.{pagesAt};
+ghost use Rattle.registers.specs.Registers.{regionsOf, infoOf, standsFor, decode, every, regionEncoded, settingEncoded};
+ghost use Rattle.validity.specs.Rest.{restFits};
+use model::Answer;
 use model::Progress;
-use model::Queue;
-use model::Setup;
 use model::Work;
+use registers::Registers;
 
-// ---- what is in progress
+// Of the tables, that each number stands for something and that it fits, in one look.
+fn regions_hold(s: &Registers) -> bool
+    ensures { λ r. ⌜ r ≡ (every (regionEncoded (now (s .entry))) 8 && all (regionFits (getD (now (s .entry)) pagesAt 0)) (regionsOf (now (s .entry)))) ⌝ }
+{
+    let d = registers::pages(s);
+    let mut ok = true;
+    for i in 0..8usize {
+        let g = registers::region(s, i);
+        let fits = bounds::region_fits(d, g);
+        let known = registers::region_encoded(s, i);
+        ok = ok & (known & fits);
+    }
+    ok
+}
+
+fn pages_hold(s: &Registers) -> bool
+    ensures { λ r. ⌜ r ≡ (every (settingEncoded (now (s .entry))) 26 && all pageFits (infoOf (now (s .entry)))) ⌝ }
+{
+    let mut ok = true;
+    for i in 0..26usize {
+        let p = registers::page_setting(s, i);
+        let fits = bounds::page_fits(p);
+        let known = registers::page_encoded(s, i);
+        ok = ok & (known & fits);
+    }
+    ok
+}
+
+fn queues_fit(s: &Registers, ready: bool) -> bool
+    ensures { λ r. ⌜ r ≡ queuesFit ready (standsFor (now (s .entry)) .queues) ⌝ }
+{
+    let reads = registers::read_count(s);
+    let programs = registers::program_count(s);
+    let small = (reads <= 16) & (programs <= 16);
+    let none = (reads == 0) & (programs == 0);
+    small & (ready | none)
+}
 
 fn progress_fits(ready: bool, p: Progress) -> bool
     ensures { λ r. ⌜ r ≡ progressFits ready p ⌝ }
 {
-    let busy = state::is_busy(p);
+    let busy = refusals::is_busy(p);
     ready | !busy
 }
 
@@ -26,10 +67,11 @@ fn pushed_fits(moved: u32, queued: u32, count: u32) -> bool
     moved as usize + queued as usize <= count as usize
 }
 
-fn work_fits(setup: Setup, programs: Queue, w: Work) -> bool
-    ensures { λ r. ⌜ r ≡ workFits setup programs w ⌝ }
+fn work_fits(s: &Registers, w: Work) -> bool
+    ensures { λ r. ⌜ r ≡ workFits (standsFor (now (s .entry)) .setup) (standsFor (now (s .entry)) .queues .programs) w ⌝ }
 {
-    let queued = programs.len;
+    let d = registers::pages(s);
+    let queued = registers::program_count(s);
     let none = queued == 0;
     match w {
         Work::Read {
@@ -38,66 +80,90 @@ fn work_fits(setup: Setup, programs: Queue, w: Work) -> bool
             readable,
         } => {
             let kind = places::is_read(op);
-            let left = (moved as usize) < places::total_words(setup.pages, op);
-            let answer = checks::operation_answer(setup, op);
+            let left = (moved as usize) < places::total_words(d, op);
+            let answer = lookups::operation_answer(s, op);
             let accepted = refusals::accepts(answer);
             let denied = refusals::is_denied(answer);
-            let same = readable == state::readable_by(answer, op);
+            let same = readable == lookups::readable_by(answer, op);
             kind & (left & ((accepted | denied) & (same & none)))
         }
         Work::Program { op, moved } => {
             let kind = places::is_program(op);
-            let left = (moved as usize) < places::total_words(setup.pages, op);
-            let accepted = refusals::accepts(checks::operation_answer(setup, op));
+            let left = (moved as usize) < places::total_words(d, op);
+            let accepted = refusals::accepts(lookups::operation_answer(s, op));
             let pushed = pushed_fits(moved, queued, op.count);
             kind & (left & (accepted & pushed))
         }
         Work::Erase { op, moved } => {
             let page = places::is_page_erase(op);
             let bank = places::is_bank_erase(op);
-            let left = (moved as usize) < places::total_words(setup.pages, op);
-            let accepted = refusals::accepts(checks::operation_answer(setup, op));
+            let left = (moved as usize) < places::total_words(d, op);
+            let accepted = refusals::accepts(lookups::operation_answer(s, op));
             (page | bank) & (left & (accepted & none))
         }
     }
 }
 
-fn running_fits(setup: Setup, programs: Queue, p: Progress) -> bool
-    ensures { λ r. ⌜ r ≡ runningFits setup programs p ⌝ }
+fn running_fits(s: &Registers, p: Progress) -> bool
+    ensures { λ r. ⌜ r ≡ runningFits (standsFor (now (s .entry)) .setup) (standsFor (now (s .entry)) .queues .programs) p ⌝ }
 {
     match p {
-        Progress::Idle => programs.len == 0,
-        Progress::Running(w) => work_fits(setup, programs, w),
+        Progress::Idle => registers::program_count(s) == 0,
+        Progress::Running(w) => work_fits(s, w),
     }
 }
 
-// ---- check 1
-
-pub fn valid(c: Controller) -> bool
-    ensures { λ r. ⌜ r ≡ valid c ⌝ }
+// All but the tables of regions and pages.
+fn rest_fits(s: &Registers) -> bool
+    ensures { λ r. ⌜ r ≡ restFits (now (s .entry)) ⌝ }
 {
-    let setup = c.setup;
-    let settings = setup.settings;
-    let errors = c.errors;
-    let queues = c.queues;
-    let programs = queues.programs;
-    let progress = c.progress;
-    let phase = c.phase;
-    let ready = state::is_ready(phase);
-    let pages = geometry::pages_fit(setup.pages);
-    let set = bounds::settings_fit(setup.pages, settings);
+    let phase = registers::phase(s);
+    let progress = registers::progress(s);
+    let errors = registers::errors(s);
+    let ready = refusals::is_ready(phase);
+    let pages = geometry::pages_fit(registers::pages(s));
+    let other = bounds::rights_fit(registers::default_rights(s));
     let told = bounds::errors_fit(errors);
-    let queued = bounds::queues_fit(ready, queues);
+    let queued = queues_fit(s, ready);
     let held = progress_fits(ready, progress);
-    let running = running_fits(setup, programs, progress);
-    pages & (set & (told & (queued & (held & running))))
+    let running = running_fits(s, progress);
+    pages & (other & (told & (queued & (held & running))))
+}
+
+pub fn valid(s: &Registers) -> bool
+    ensures { λ r. ⌜ r ≡ valid (decode (now (s .entry))) ⌝ }
+{
+    let plain = registers::plain_encoded(s);
+    let running = registers::progress_encoded(s);
+    let regions = regions_hold(s);
+    let pages = pages_hold(s);
+    if plain & (running & (regions & pages)) {
+        return rest_fits(s);
+    }
+    false
 }
 
 // Check 1 of a call that is lent the image.
-pub fn valid_with(c: Controller, image: &[u32]) -> bool
-    ensures { λ r. ⌜ r ≡ validWith c (flash (now (image .entry))) ⌝ }
+pub fn valid_with(s: &Registers, image: &[u32]) -> bool
+    ensures { λ r. ⌜ r ≡ validWith (decode (now (s .entry))) (flash (now (image .entry))) ⌝ }
 {
-    let own = valid(c);
-    let fits = image.len() == geometry::image_words(c.setup.pages);
-    own & fits
+    if valid(s) {
+        return image.len() == geometry::image_words(registers::pages(s));
+    }
+    false
+}
+
+// Checks 1, 2 and 3 of a call that is lent no image, and of one that is.
+pub fn ready(s: &Registers) -> Answer
+    ensures { λ r. ⌜ r ≡ readyAnswer (valid (decode (now (s .entry)))) (decode (now (s .entry)) .phase) ⌝ }
+{
+    let own = valid(s);
+    refusals::ready_answer(own, registers::phase(s))
+}
+
+pub fn ready_with(s: &Registers, image: &[u32]) -> Answer
+    ensures { λ r. ⌜ r ≡ readyAnswer (validWith (decode (now (s .entry))) (flash (now (image .entry)))) (decode (now (s .entry)) .phase) ⌝ }
+{
+    let both = valid_with(s, image);
+    refusals::ready_answer(both, registers::phase(s))
 }

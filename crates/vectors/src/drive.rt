@@ -1,13 +1,10 @@
 // An operation run to its end, by steps or as a whole.
-use model::Answer;
-use model::Controller;
-use model::Movement;
 use model::Operation;
+use registers::Registers;
 
 // `word` is the last one popped, or the first of a whole operation's buffer; `steps` counts those that moved a word.
 pub struct Run {
-    pub controller: Controller,
-    pub answer: Answer,
+    pub answer: u32,
     pub steps: u64,
     pub bits: u64,
     pub word: u32,
@@ -16,79 +13,57 @@ pub struct Run {
 // More steps than the largest operation of D = 16 has words, 7,424.
 const BUDGET: usize = 8000;
 
-fn moves(m: Movement) -> bool {
-    match m {
-        Movement::None => false,
-        Movement::Moved => true,
-        Movement::Finished => true,
-        Movement::Stalled => false,
-    }
+// More words than an operation may have, 1,024, so check 6 cannot answer.
+const BUFFER: usize = 1025;
+
+const MOVED: u32 = 1;
+
+const FINISHED: u32 = 2;
+
+// The last word moves too.
+fn moves(movement: u32) -> bool {
+    (movement == MOVED) | (movement == FINISHED)
 }
 
-// The last word read, if there is one to pop.
-fn popped(r: Run) -> Run {
-    let c = r.controller;
-    let f = queueing::pop(c);
-    let a = f.answer;
-    if !refusals::accepts(a) {
-        return r;
-    }
-    let controller = f.controller;
-    let answer = r.answer;
-    Run {
-        controller,
-        answer,
-        steps: r.steps,
-        bits: r.bits,
-        word: f.word,
-    }
+// The word read, or the last one before it if there is none to pop.
+fn popped(s: &mut Registers, last: u32) -> u32 {
+    let r = queueing::pop(s);
+    if r.answer == 0 { r.word } else { last }
 }
 
 // Push, step, pop. Only a program takes the push, and only a read has a word to pop.
-fn turn(r: Run, image: &mut [u32], word: u32) -> Run {
-    let c = r.controller;
-    let pushed = queueing::push(c, word);
-    let c = pushed.controller;
-    let s = steps::step(c, image);
-    let movement = s.movement;
-    let controller = s.controller;
-    let answer = r.answer;
-    popped(Run {
-        controller,
-        answer,
-        steps: std::num::wrapping_add_u64(r.steps, moves(movement) as u64),
-        bits: std::num::wrapping_add_u64(r.bits, s.bits as u64),
-        word: r.word,
-    })
+fn turn(s: &mut Registers, image: &mut [u32], word: u32, r: Run) -> Run {
+    queueing::push(s, word);
+    let t = steps::step(s, image);
+    let last = popped(s, r.word);
+    Run {
+        answer: r.answer,
+        steps: std::num::wrapping_add_u64(r.steps, moves(t.movement) as u64),
+        bits: std::num::wrapping_add_u64(r.bits, t.bits as u64),
+        word: last,
+    }
 }
 
 // Steps past the last word are refused, and move and count nothing.
-pub fn by_steps(c: Controller, image: &mut [u32], o: Operation, word: u32) -> Run {
-    let started = operations::start(c, o);
-    let controller = started.controller;
-    let answer = started.answer;
+pub fn by_steps(s: &mut Registers, image: &mut [u32], o: Operation, word: u32) -> Run {
+    let answer = operations::start(s, o);
     let mut r = Run {
-        controller,
         answer,
         steps: 0,
         bits: 0,
         word: 0,
     };
     for i in 0..BUDGET {
-        r = turn(r, image, word);
+        r = turn(s, image, word, r);
     }
     r
 }
 
-// The buffer is long enough for any n that is put here, so 6 cannot answer.
-pub fn as_a_whole(c: Controller, image: &mut [u32], o: Operation, word: u32) -> Run {
-    let mut buffer = [word; 1025];
-    let done = whole::run(c, image, o, &mut buffer);
-    let controller = done.controller;
-    let answer = done.answer;
+pub fn as_a_whole(s: &mut Registers, image: &mut [u32], o: Operation, word: u32) -> Run {
+    let mut buffer = [word; BUFFER];
+    let done = whole::run(s, image, o, &mut buffer);
     Run {
-        controller,
-        answer,
+        answer: done.answer,
         steps: 0,
         bits: done.bits as u64,
         word: buffer[0],

@@ -1,6 +1,5 @@
 // What the lines are made of: numbers, answers, and operations as a bench engineer writes them.
 use libc::STDOUT_FILENO;
-use model::Answer;
 use model::Operation;
 
 pub fn text(words: &[u8]) {
@@ -17,12 +16,12 @@ pub fn hex(label: &[u8], n: u32, width: usize) {
     io::print_hex(STDOUT_FILENO, n as u64, width);
 }
 
-// The answer by its number in 01: 0 if the call is accepted.
-pub fn answer(label: &[u8], a: Answer) {
-    number(label, refusals::number_of(a) as u64);
+// 0 if the call is accepted.
+pub fn answer(label: &[u8], a: u32) {
+    number(label, a as u64);
 }
 
-pub fn answer_line(a: Answer) {
+pub fn answer_line(a: u32) {
     answer(b": ", a);
     text(b"\n");
 }

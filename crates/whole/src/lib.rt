@@ -1,26 +1,123 @@
-// A whole operation: its checks once, and what their answer leaves.
+// A whole operation on the registers: its checks once, then its words in order, without steps and queues.
 ghost use mathlib.Core.Path.{_≡_};
+ghost use mathlib.Core.Bool.{true};
 ghost use Rattle.model.specs.State.{flash};
-ghost use Rattle.model.specs.Whole.{whole};
+ghost use Rattle.model.specs.Refusals.{numberOf, accepts};
+ghost use Rattle.model.specs.Errors.{recorded};
+ghost use Rattle.model.specs.Checks.{operationAnswer};
+ghost use Rattle.model.specs.Whole.{wholeAnswer, shortBuffer};
+ghost use Rattle.plans.specs.Plan.{planStarted, planAnswered, performed};
+ghost use Rattle.registers.specs.Registers.{setupOf, standsFor, decode, errorsAt};
+ghost use Rattle.calls.specs.Calls.{wholeLeft, wholeIn};
+ghost use Rattle.whole.specs.Admitted.{Admitted};
+use calls::ToldBits;
 use model::Answer;
-use model::Completed;
-use model::Controller;
+use model::Errors;
 use model::Operation;
+use registers::Registers;
+
+// ---- checks 1 to 4, and 6
+
+// Of a whole operation 4 also applies if a queue holds a word.
+fn whole_answer(s: &Registers, image: &[u32]) -> Answer
+    ensures { λ r. ⌜ r ≡ wholeAnswer (decode (now (s .entry))) (flash (now (image .entry))) ⌝ }
+{
+    let ready = validity::ready_with(s, image);
+    if !refusals::accepts(ready) {
+        return ready;
+    }
+    let progress = registers::progress(s);
+    let busy = refusals::is_busy(progress);
+    let reads = registers::read_count(s) == 0;
+    let programs = registers::program_count(s) == 0;
+    refusals::check(busy | !(reads & programs), Answer::Busy)
+}
+
+// Only an operation that passes check 5 comes to check 6.
+fn short_buffer(o: Operation, buffer: &[u32]) -> bool
+    ensures { λ r. ⌜ r ≡ shortBuffer o (now (buffer .entry)) ⌝ }
+{
+    let formed = refusals::accepts(checks::form_answer(o));
+    let counts = places::uses_count(o);
+    let short = buffer.len() < o.count as usize;
+    formed & (counts & short)
+}
+
+// ---- what is done once they have passed
+
+fn told(answer: Answer, bits: u32) -> ToldBits
+    ensures { λ r. ⌜ r ≡ record { answer = numberOf answer; bits = bits } ⌝ }
+{
+    let number = calls::number(answer);
+    ToldBits {
+        answer: number,
+        bits,
+    }
+}
+
+// An operation that passes every check.
+fn started(s: &mut Registers, image: &mut [u32], o: Operation, buffer: &mut [u32]) -> ToldBits
+    requires { ⌜ Admitted (now s) (flash (now image)) o (now buffer) × (accepts (operationAnswer (setupOf (now s)) o) ≡ true) ⌝ }
+    ensures { λ r. ⌜ record { told = r; registers = now (s .exit); flash = flash (now (image .exit)); buffer = now (buffer .exit) } ≡ wholeLeft (now (s .entry)) (performed (standsFor (now (s .entry))) (flash (now (image .entry))) o (now (buffer .entry)) (planStarted (setupOf (now (s .entry)) .pages) o)) ⌝ }
+{
+    if places::is_read(o) {
+        transfers::read(registers::pages(s), image, o, buffer);
+        registers::put_reads(s, queue::empty());
+        return told(Answer::Accepted, 0);
+    }
+    if places::is_program(o) {
+        let bits = transfers::program(s, image, o, buffer);
+        registers::put_programs(s, queue::empty());
+        return told(Answer::Accepted, bits);
+    }
+    let bits = transfers::erase(s, image, o);
+    told(Answer::Accepted, bits)
+}
+
+// The error record with a refusal of 5, 7, 8 or 9 in it.
+fn recorded(s: &Registers, answer: Answer, o: Operation) -> Errors
+    ensures { λ r. ⌜ r ≡ recorded answer (o .address) (errorsAt (now (s .entry))) ⌝ }
+{
+    let address = o.address;
+    refusals::recorded(answer, address, registers::errors(s))
+}
+
+// What the answer of checks 5, 7, 8 and 9 leaves: a refusal is recorded, and a denied read is blank.
+fn answered(
+    s: &mut Registers,
+    image: &mut [u32],
+    o: Operation,
+    buffer: &mut [u32],
+    answer: Answer,
+) -> ToldBits
+    requires { ⌜ Admitted (now s) (flash (now image)) o (now buffer) × (answer ≡ operationAnswer (setupOf (now s)) o) ⌝ }
+    ensures { λ r. ⌜ record { told = r; registers = now (s .exit); flash = flash (now (image .exit)); buffer = now (buffer .exit) } ≡ wholeLeft (now (s .entry)) (performed (standsFor (now (s .entry))) (flash (now (image .entry))) o (now (buffer .entry)) (planAnswered (setupOf (now (s .entry)) .pages) o answer)) ⌝ }
+{
+    if refusals::accepts(answer) {
+        return started(s, image, o, buffer);
+    }
+    let errors = recorded(s, answer, o);
+    if places::is_read(o) & refusals::is_denied(answer) {
+        transfers::blank(buffer, o.count as usize);
+        registers::put_reads(s, queue::empty());
+        registers::put_errors(s, errors);
+        return told(answer, 0);
+    }
+    registers::put_errors(s, errors);
+    told(answer, 0)
+}
 
 // 6 comes after 5, since a malformed operation does not come to it, and before 7, 8 and 9.
-pub fn run(c: Controller, image: &mut [u32], o: Operation, buffer: &mut [u32]) -> Completed
-    ensures { λ r. ⌜ record { result = r; flash = flash (now (image .exit)); buffer = now (buffer .exit) } ≡ whole c (flash (now (image .entry))) o (now (buffer .entry)) ⌝ }
+pub fn run(s: &mut Registers, image: &mut [u32], o: Operation, buffer: &mut [u32]) -> ToldBits
+    ensures { λ r. ⌜ record { told = r; registers = now (s .exit); flash = flash (now (image .exit)); buffer = now (buffer .exit) } ≡ wholeIn (now (s .entry)) (flash (now (image .entry))) o (now (buffer .entry)) ⌝ }
 {
-    let setup = c.setup;
-    let first = admission::whole_answer(c, image);
-    let short = admission::short_buffer(o, buffer);
-    let sixth = refusals::check(short, Answer::ShortBuffer);
-    let answer = refusals::or_else(sixth, checks::operation_answer(setup, o));
+    let first = whole_answer(s, image);
     if !refusals::accepts(first) {
-        return execution::completed(c, first, 0);
+        return told(first, 0);
     }
-    if short {
-        return execution::completed(c, answer, 0);
+    if short_buffer(o, buffer) {
+        return told(Answer::ShortBuffer, 0);
     }
-    execution::answered(c, image, o, buffer, answer)
+    let answer = lookups::operation_answer(s, o);
+    answered(s, image, o, buffer, answer)
 }

@@ -1,119 +1,123 @@
-//! The library's functions: lent memory is a slice here, a pointer and a
-//! length there.
+//! The library's functions: lent memory is a reference here, a pointer and,
+//! where it has one, a length there.
 
 use super::flat::*;
 
+// The names carry the header's LURGABEL_LAYOUT.
 extern "C" {
-    fn lurgabel_value_reset(c: Controller, data_pages: u32) -> Outcome;
-    fn lurgabel_value_set_inputs(c: Controller, provision_enabled: u8, seeds_locked: u8)
-        -> Outcome;
-    fn lurgabel_value_set_region(c: Controller, number: u32, region: Region) -> Outcome;
-    fn lurgabel_value_set_default_rights(c: Controller, rights: u8) -> Outcome;
-    fn lurgabel_value_set_info_page(
-        c: Controller,
+    fn lurgabel_layout2_reset(c: &mut Controller, data_pages: u32) -> u32;
+    fn lurgabel_layout2_set_inputs(
+        c: &mut Controller,
+        provision_enabled: u32,
+        seeds_locked: u32,
+    ) -> u32;
+    fn lurgabel_layout2_set_region(c: &mut Controller, number: u32, region: Region) -> u32;
+    fn lurgabel_layout2_set_default_rights(c: &mut Controller, rights: u32) -> u32;
+    fn lurgabel_layout2_set_info_page(
+        c: &mut Controller,
         bank: u32,
-        info_type: u8,
+        info_type: u32,
         page: u32,
         setting: PageSetting,
-    ) -> Outcome;
-    fn lurgabel_value_set_bank_erase(c: Controller, bank: u32, on: u8) -> Outcome;
-    fn lurgabel_value_clear_errors(c: Controller) -> Outcome;
-    fn lurgabel_value_initialise(
-        c: Controller,
+    ) -> u32;
+    fn lurgabel_layout2_set_bank_erase(c: &mut Controller, bank: u32, on: u32) -> u32;
+    fn lurgabel_layout2_clear_errors(c: &mut Controller) -> u32;
+    fn lurgabel_layout2_initialise(
+        c: &mut Controller,
         image: *const u32,
         image_words: usize,
     ) -> Initialised;
-    fn lurgabel_value_start(c: Controller, operation: Operation) -> Outcome;
-    fn lurgabel_value_step(c: Controller, image: *mut u32, image_words: usize) -> Stepped;
-    fn lurgabel_value_push(c: Controller, word: u32) -> Outcome;
-    fn lurgabel_value_pop(c: Controller) -> Fetched;
-    fn lurgabel_value_run(
-        c: Controller,
+    fn lurgabel_layout2_start(c: &mut Controller, operation: Operation) -> u32;
+    fn lurgabel_layout2_step(c: &mut Controller, image: *mut u32, image_words: usize) -> Stepped;
+    fn lurgabel_layout2_push(c: &mut Controller, word: u32) -> u32;
+    fn lurgabel_layout2_pop(c: &mut Controller) -> Fetched;
+    fn lurgabel_layout2_run(
+        c: &mut Controller,
         image: *mut u32,
         image_words: usize,
         operation: Operation,
         buffer: *mut u32,
         buffer_words: usize,
     ) -> Completed;
-    fn lurgabel_value_host_read(
-        c: Controller,
+    fn lurgabel_layout2_host_read(
+        c: &Controller,
         image: *const u32,
         image_words: usize,
         address: u32,
     ) -> Fetched;
-    fn lurgabel_value_view(
-        c: Controller,
+    fn lurgabel_layout2_view(
+        c: &Controller,
         image: *const u32,
         image_words: usize,
         page: u32,
     ) -> Viewed;
-    fn lurgabel_value_rma(c: Controller, image: *mut u32, image_words: usize) -> Outcome;
+    fn lurgabel_layout2_rma(c: &mut Controller, image: *mut u32, image_words: usize) -> u32;
 }
 
-// SAFETY, for each call below: plain data goes by value, and a lent slice lives for the whole call with the length given.
+// SAFETY, for each call below: what is lent lives for the whole call, a slice with the length given.
 
-pub fn reset(c: Controller, data_pages: u32) -> Outcome {
-    unsafe { lurgabel_value_reset(c, data_pages) }
+pub fn reset(c: &mut Controller, data_pages: u32) -> u32 {
+    unsafe { lurgabel_layout2_reset(c, data_pages) }
 }
 
-pub fn set_inputs(c: Controller, provision_enabled: u8, seeds_locked: u8) -> Outcome {
-    unsafe { lurgabel_value_set_inputs(c, provision_enabled, seeds_locked) }
+pub fn set_inputs(c: &mut Controller, provision_enabled: u32, seeds_locked: u32) -> u32 {
+    unsafe { lurgabel_layout2_set_inputs(c, provision_enabled, seeds_locked) }
 }
 
-pub fn set_region(c: Controller, number: u32, region: Region) -> Outcome {
-    unsafe { lurgabel_value_set_region(c, number, region) }
+pub fn set_region(c: &mut Controller, number: u32, region: Region) -> u32 {
+    unsafe { lurgabel_layout2_set_region(c, number, region) }
 }
 
-pub fn set_default_rights(c: Controller, rights: u8) -> Outcome {
-    unsafe { lurgabel_value_set_default_rights(c, rights) }
+pub fn set_default_rights(c: &mut Controller, rights: u32) -> u32 {
+    unsafe { lurgabel_layout2_set_default_rights(c, rights) }
 }
 
 pub fn set_info_page(
-    c: Controller,
+    c: &mut Controller,
     bank: u32,
-    info_type: u8,
+    info_type: u32,
     page: u32,
     setting: PageSetting,
-) -> Outcome {
-    unsafe { lurgabel_value_set_info_page(c, bank, info_type, page, setting) }
+) -> u32 {
+    unsafe { lurgabel_layout2_set_info_page(c, bank, info_type, page, setting) }
 }
 
-pub fn set_bank_erase(c: Controller, bank: u32, on: u8) -> Outcome {
-    unsafe { lurgabel_value_set_bank_erase(c, bank, on) }
+pub fn set_bank_erase(c: &mut Controller, bank: u32, on: u32) -> u32 {
+    unsafe { lurgabel_layout2_set_bank_erase(c, bank, on) }
 }
 
-pub fn clear_errors(c: Controller) -> Outcome {
-    unsafe { lurgabel_value_clear_errors(c) }
+pub fn clear_errors(c: &mut Controller) -> u32 {
+    unsafe { lurgabel_layout2_clear_errors(c) }
 }
 
-pub fn initialise(c: Controller, image: &[u32]) -> Initialised {
-    unsafe { lurgabel_value_initialise(c, image.as_ptr(), image.len()) }
+pub fn initialise(c: &mut Controller, image: &[u32]) -> Initialised {
+    unsafe { lurgabel_layout2_initialise(c, image.as_ptr(), image.len()) }
 }
 
-pub fn start(c: Controller, operation: Operation) -> Outcome {
-    unsafe { lurgabel_value_start(c, operation) }
+pub fn start(c: &mut Controller, operation: Operation) -> u32 {
+    unsafe { lurgabel_layout2_start(c, operation) }
 }
 
-pub fn step(c: Controller, image: &mut [u32]) -> Stepped {
-    unsafe { lurgabel_value_step(c, image.as_mut_ptr(), image.len()) }
+pub fn step(c: &mut Controller, image: &mut [u32]) -> Stepped {
+    unsafe { lurgabel_layout2_step(c, image.as_mut_ptr(), image.len()) }
 }
 
-pub fn push(c: Controller, word: u32) -> Outcome {
-    unsafe { lurgabel_value_push(c, word) }
+pub fn push(c: &mut Controller, word: u32) -> u32 {
+    unsafe { lurgabel_layout2_push(c, word) }
 }
 
-pub fn pop(c: Controller) -> Fetched {
-    unsafe { lurgabel_value_pop(c) }
+pub fn pop(c: &mut Controller) -> Fetched {
+    unsafe { lurgabel_layout2_pop(c) }
 }
 
 pub fn run(
-    c: Controller,
+    c: &mut Controller,
     image: &mut [u32],
     operation: Operation,
     buffer: &mut [u32],
 ) -> Completed {
     unsafe {
-        lurgabel_value_run(
+        lurgabel_layout2_run(
             c,
             image.as_mut_ptr(),
             image.len(),
@@ -124,14 +128,14 @@ pub fn run(
     }
 }
 
-pub fn host_read(c: Controller, image: &[u32], address: u32) -> Fetched {
-    unsafe { lurgabel_value_host_read(c, image.as_ptr(), image.len(), address) }
+pub fn host_read(c: &Controller, image: &[u32], address: u32) -> Fetched {
+    unsafe { lurgabel_layout2_host_read(c, image.as_ptr(), image.len(), address) }
 }
 
-pub fn view(c: Controller, image: &[u32], page: u32) -> Viewed {
-    unsafe { lurgabel_value_view(c, image.as_ptr(), image.len(), page) }
+pub fn view(c: &Controller, image: &[u32], page: u32) -> Viewed {
+    unsafe { lurgabel_layout2_view(c, image.as_ptr(), image.len(), page) }
 }
 
-pub fn rma(c: Controller, image: &mut [u32]) -> Outcome {
-    unsafe { lurgabel_value_rma(c, image.as_mut_ptr(), image.len()) }
+pub fn rma(c: &mut Controller, image: &mut [u32]) -> u32 {
+    unsafe { lurgabel_layout2_rma(c, image.as_mut_ptr(), image.len()) }
 }

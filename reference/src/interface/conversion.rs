@@ -1,4 +1,5 @@
-//! Between the flat struct of the C interface and the second program's state.
+//! Between the numbers of the C interface and the second program's state and
+//! arguments.
 
 use super::flat;
 use crate::model::{
@@ -10,8 +11,11 @@ use crate::model::{
 const RECORDED_KINDS: u32 =
     1 << model::MALFORMED | 1 << model::OUTSIDE | 1 << model::WINDOW | 1 << model::DENIED;
 
-/// None if a field encodes nothing: a flag over 1, a phase over 2, another bit
-/// in the record than its four kinds, or an operation in progress of no kind.
+// -- the state -----------------------------------------------------------------
+
+/// None if a field encodes nothing: a flag over 1, a phase over 2, rights over
+/// 255, another bit in the record than its four kinds, or an operation in
+/// progress of no kind or with a partition or type over 255.
 pub fn to_reference(c: &flat::Controller) -> Option<Controller> {
     Some(Controller {
         data_pages: c.data_pages,
@@ -19,7 +23,7 @@ pub fn to_reference(c: &flat::Controller) -> Option<Controller> {
         provision_enabled: flag(c.provision_enabled)?,
         seeds_locked: flag(c.seeds_locked)?,
         regions: all(c.regions, region)?,
-        default_rights: c.default_rights,
+        default_rights: byte(c.default_rights)?,
         info_settings: all(c.info_pages, info_setting)?,
         bank_erase_permissions: all(c.bank_erase, flag)?,
         recorded: recorded(c.recorded)?,
@@ -41,16 +45,20 @@ fn all<A: Copy, B: Copy + Default, const N: usize>(
     Some(decoded)
 }
 
-fn flag(byte: u8) -> Option<bool> {
-    match byte {
+fn byte(number: u32) -> Option<u8> {
+    u8::try_from(number).ok()
+}
+
+fn flag(number: u32) -> Option<bool> {
+    match number {
         0 => Some(false),
         1 => Some(true),
         _ => None,
     }
 }
 
-fn phase(byte: u8) -> Option<Phase> {
-    match byte {
+fn phase(number: u32) -> Option<Phase> {
+    match number {
         flat::PHASE_UNINITIALISED => Some(Phase::Fresh),
         flat::PHASE_READY => Some(Phase::Ready),
         flat::PHASE_DISABLED => Some(Phase::Shut),
@@ -67,14 +75,14 @@ fn region(r: flat::Region) -> Option<Region> {
         on: flag(r.on)?,
         first_page: r.first_page,
         page_count: r.page_count,
-        rights: r.rights,
+        rights: byte(r.rights)?,
     })
 }
 
 fn info_setting(s: flat::PageSetting) -> Option<InfoSetting> {
     Some(InfoSetting {
         on: flag(s.on)?,
-        rights: s.rights,
+        rights: byte(s.rights)?,
     })
 }
 
@@ -90,7 +98,7 @@ fn in_progress(p: flat::Progress) -> Option<InProgress> {
     if !flag(p.running)? {
         return Some(InProgress::Nothing);
     }
-    let operation = Operation::from(p.operation);
+    let operation = operation(p.operation)?;
     let moved = p.moved;
     match operation.kind {
         READ => Some(InProgress::Read {
@@ -104,28 +112,14 @@ fn in_progress(p: flat::Progress) -> Option<InProgress> {
     }
 }
 
-impl From<flat::Operation> for Operation {
-    fn from(o: flat::Operation) -> Self {
-        Operation {
-            kind: o.kind,
-            partition: o.partition,
-            info_type: o.info_type,
-            address: o.address,
-            count: o.count,
-        }
-    }
-}
-
-impl From<Operation> for flat::Operation {
-    fn from(o: Operation) -> Self {
-        flat::Operation {
-            address: o.address,
-            count: o.count,
-            kind: o.kind,
-            partition: o.partition,
-            info_type: o.info_type,
-        }
-    }
+fn operation(o: flat::Operation) -> Option<Operation> {
+    Some(Operation {
+        kind: byte(o.kind)?,
+        partition: byte(o.partition)?,
+        info_type: byte(o.info_type)?,
+        address: o.address,
+        count: o.count,
+    })
 }
 
 /// Unused fields of the progress are 0.
@@ -137,20 +131,20 @@ pub fn from_reference(c: &Controller) -> flat::Controller {
             Phase::Ready => flat::PHASE_READY,
             Phase::Shut => flat::PHASE_DISABLED,
         },
-        provision_enabled: u8::from(c.provision_enabled),
-        seeds_locked: u8::from(c.seeds_locked),
-        default_rights: c.default_rights,
+        provision_enabled: u32::from(c.provision_enabled),
+        seeds_locked: u32::from(c.seeds_locked),
+        default_rights: u32::from(c.default_rights),
         regions: c.regions.map(|r| flat::Region {
             first_page: r.first_page,
             page_count: r.page_count,
-            on: u8::from(r.on),
-            rights: r.rights,
+            on: u32::from(r.on),
+            rights: u32::from(r.rights),
         }),
         info_pages: c.info_settings.map(|s| flat::PageSetting {
-            on: u8::from(s.on),
-            rights: s.rights,
+            on: u32::from(s.on),
+            rights: u32::from(s.rights),
         }),
-        bank_erase: c.bank_erase_permissions.map(u8::from),
+        bank_erase: c.bank_erase_permissions.map(u32::from),
         progress: flat_progress(c.in_progress),
         read_queue: flat_queue(c.read_queue),
         program_queue: flat_queue(c.program_queue),
@@ -183,5 +177,55 @@ fn flat_progress(p: InProgress) -> flat::Progress {
         InProgress::Program { operation, moved } | InProgress::Erase { operation, moved } => {
             running(operation, moved, 0)
         }
+    }
+}
+
+impl From<Operation> for flat::Operation {
+    fn from(o: Operation) -> Self {
+        flat::Operation {
+            address: o.address,
+            count: o.count,
+            kind: u32::from(o.kind),
+            partition: u32::from(o.partition),
+            info_type: u32::from(o.info_type),
+        }
+    }
+}
+
+// -- arguments -----------------------------------------------------------------
+
+/// An argument that the rules hold in a byte: over 255 it counts as 255.
+pub fn asked_byte(number: u32) -> u8 {
+    number.min(255) as u8
+}
+
+/// A flag argument is false at 0 and true otherwise.
+pub fn asked_flag(number: u32) -> bool {
+    number != 0
+}
+
+pub fn asked_operation(o: flat::Operation) -> Operation {
+    Operation {
+        kind: asked_byte(o.kind),
+        partition: asked_byte(o.partition),
+        info_type: asked_byte(o.info_type),
+        address: o.address,
+        count: o.count,
+    }
+}
+
+pub fn asked_region(region: flat::Region) -> Region {
+    Region {
+        on: asked_flag(region.on),
+        first_page: region.first_page,
+        page_count: region.page_count,
+        rights: asked_byte(region.rights),
+    }
+}
+
+pub fn asked_setting(setting: flat::PageSetting) -> InfoSetting {
+    InfoSetting {
+        on: asked_flag(setting.on),
+        rights: asked_byte(setting.rights),
     }
 }

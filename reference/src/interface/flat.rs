@@ -1,5 +1,5 @@
-//! Twins of the header's structs, with the size and the offset of every field
-//! that the C ABI gives them.
+//! Twins of the header's structs. Every field is a `u32`, so that the
+//! controller is an array of numbers; the number of each field is asserted.
 
 use std::mem::{offset_of, size_of};
 
@@ -9,113 +9,130 @@ pub const BANKS: usize = 2;
 pub const QUEUE_WORDS: usize = 16;
 pub const SEED_WORDS: usize = 8;
 
-pub const PHASE_UNINITIALISED: u8 = 0;
-pub const PHASE_READY: u8 = 1;
-pub const PHASE_DISABLED: u8 = 2;
+pub const READ: u32 = 0;
+pub const PROGRAM: u32 = 1;
+pub const PAGE_ERASE: u32 = 2;
+pub const BANK_ERASE: u32 = 3;
+
+pub const DATA: u32 = 0;
+pub const INFORMATION: u32 = 1;
+
+pub const PHASE_UNINITIALISED: u32 = 0;
+pub const PHASE_READY: u32 = 1;
+pub const PHASE_DISABLED: u32 = 2;
 
 pub const MOVEMENT_NONE: u32 = 0;
 pub const MOVEMENT_MOVED: u32 = 1;
 pub const MOVEMENT_FINISHED: u32 = 2;
 pub const MOVEMENT_STALLED: u32 = 3;
 
-/// Declares a struct of the header and asserts its size and every offset.
+const NUMBER_BYTES: usize = size_of::<u32>();
+
+/// Declares a struct of the header; asserts how many numbers it has and which
+/// is the first of each field.
 macro_rules! twin {
-    ($name:ident, size $size:literal, { $($offset:literal $field:ident: $type:ty),+ $(,)? }) => {
+    ($name:ident, numbers $numbers:expr, { $($number:literal $field:ident: $type:ty),+ $(,)? }) => {
         #[repr(C)]
         #[derive(Clone, Copy, Debug, Default, PartialEq, Eq)]
         pub struct $name {
             $(pub $field: $type,)+
         }
-        const _: () = assert!(size_of::<$name>() == $size);
-        $(const _: () = assert!(offset_of!($name, $field) == $offset);)+
+        const _: () = assert!(size_of::<$name>() == NUMBER_BYTES * $numbers);
+        $(const _: () = assert!(offset_of!($name, $field) == NUMBER_BYTES * $number);)+
     };
 }
 
-twin!(Operation, size 12, {
+twin!(Operation, numbers 5, {
     0 address: u32,
-    4 count: u32,
-    8 kind: u8,
-    9 partition: u8,
-    10 info_type: u8,
+    1 count: u32,
+    2 kind: u32,
+    3 partition: u32,
+    4 info_type: u32,
 });
 
-twin!(Region, size 12, {
+twin!(Region, numbers 4, {
     0 first_page: u32,
-    4 page_count: u32,
-    8 on: u8,
-    9 rights: u8,
+    1 page_count: u32,
+    2 on: u32,
+    3 rights: u32,
 });
 
-twin!(PageSetting, size 2, {
-    0 on: u8,
-    1 rights: u8,
+twin!(PageSetting, numbers 2, {
+    0 on: u32,
+    1 rights: u32,
 });
 
-twin!(Queue, size 68, {
+twin!(Queue, numbers 17, {
     0 words: [u32; QUEUE_WORDS],
-    64 length: u32,
+    16 length: u32,
 });
 
-twin!(Progress, size 24, {
+twin!(Progress, numbers 8, {
     0 operation: Operation,
-    12 moved: u32,
-    16 readable: u32,
-    20 running: u8,
+    5 moved: u32,
+    6 readable: u32,
+    7 running: u32,
 });
 
-twin!(Controller, size 328, {
+/// The numbers of a controller.
+pub const NUMBERS: usize = 135;
+
+twin!(Controller, numbers NUMBERS, {
     0 data_pages: u32,
-    4 phase: u8,
-    5 provision_enabled: u8,
-    6 seeds_locked: u8,
-    7 default_rights: u8,
-    8 regions: [Region; REGIONS],
-    104 info_pages: [PageSetting; INFO_PAGES],
-    156 bank_erase: [u8; BANKS],
-    160 progress: Progress,
-    184 read_queue: Queue,
-    252 program_queue: Queue,
-    320 recorded: u32,
-    324 last_address: u32,
+    1 phase: u32,
+    2 provision_enabled: u32,
+    3 seeds_locked: u32,
+    4 default_rights: u32,
+    5 regions: [Region; REGIONS],
+    37 info_pages: [PageSetting; INFO_PAGES],
+    89 bank_erase: [u32; BANKS],
+    91 progress: Progress,
+    99 read_queue: Queue,
+    116 program_queue: Queue,
+    133 recorded: u32,
+    134 last_address: u32,
 });
 
-twin!(Seeds, size 68, {
+impl Controller {
+    pub fn numbers(&self) -> &[u32; NUMBERS] {
+        // SAFETY: it is made of so many `u32` and nothing else.
+        unsafe { &*std::ptr::from_ref(self).cast() }
+    }
+
+    pub fn numbers_mut(&mut self) -> &mut [u32; NUMBERS] {
+        // SAFETY: as above, and every number may stand in every field.
+        unsafe { &mut *std::ptr::from_mut(self).cast() }
+    }
+}
+
+twin!(Seeds, numbers 17, {
     0 creator: [u32; SEED_WORDS],
-    32 owner: [u32; SEED_WORDS],
-    64 given: u8,
+    8 owner: [u32; SEED_WORDS],
+    16 given: u32,
 });
 
-twin!(Outcome, size 332, {
-    0 controller: Controller,
-    328 answer: u32,
-});
-
-twin!(Fetched, size 336, {
-    0 controller: Controller,
-    328 answer: u32,
-    332 word: u32,
-});
-
-twin!(Stepped, size 340, {
-    0 controller: Controller,
-    328 answer: u32,
-    332 movement: u32,
-    336 bits: u32,
-});
-
-twin!(Initialised, size 400, {
-    0 controller: Controller,
-    328 answer: u32,
-    332 seeds: Seeds,
-});
-
-twin!(Completed, size 336, {
-    0 controller: Controller,
-    328 answer: u32,
-    332 bits: u32,
-});
-
-twin!(Viewed, size 8, {
+twin!(Initialised, numbers 18, {
     0 answer: u32,
-    4 start: u32,
+    1 seeds: Seeds,
+});
+
+twin!(Stepped, numbers 3, {
+    0 answer: u32,
+    1 movement: u32,
+    2 bits: u32,
+});
+
+twin!(Fetched, numbers 2, {
+    0 answer: u32,
+    1 word: u32,
+});
+
+twin!(Completed, numbers 2, {
+    0 answer: u32,
+    1 bits: u32,
+});
+
+twin!(Viewed, numbers 2, {
+    0 answer: u32,
+    1 start: u32,
 });

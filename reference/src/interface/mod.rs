@@ -5,4 +5,7 @@ mod conversion;
 pub mod fields;
 pub mod flat;
 
-pub use conversion::{from_reference, to_reference};
+pub use conversion::{
+    asked_byte, asked_flag, asked_operation, asked_region, asked_setting, from_reference,
+    to_reference,
+};

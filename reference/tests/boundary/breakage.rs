@@ -1,9 +1,8 @@
 //! Each field's breakage alone turns a call that is accepted into refusal 1.
 
 use crate::helpers::*;
-use reference::interface::flat::Controller;
+use reference::interface::flat::{Controller, PROGRAM, READ};
 use reference::interface::{calls, fields};
-use reference::model::{PROGRAM, READ};
 
 fn programming() -> Controller {
     with_progress(open(), info(PROGRAM, 2, 0x0440, 16), 3)
@@ -40,6 +39,11 @@ fn breaking(field: &str) -> Option<(Controller, u32)> {
     Some(case)
 }
 
+/// The answer of the call that checks the state and nothing else.
+fn cleared(mut c: Controller) -> u32 {
+    calls::clear_errors(&mut c)
+}
+
 #[test]
 fn each_field_alone_can_break_the_state() {
     for field in fields::all() {
@@ -47,10 +51,10 @@ fn each_field_alone_can_break_the_state() {
             continue;
         };
         let broken = with(&ours, &field.name, value);
-        assert_eq!(calls::clear_errors(ours).answer, 0, "{}", field.name);
-        let given = calls::clear_errors(broken);
-        assert_eq!(given.answer, 1, "{}", field.name);
-        assert_changed(&given.controller, &broken, &[]);
+        assert_eq!(cleared(ours), 0, "{}", field.name);
+        let (answer, after) = left(broken, calls::clear_errors);
+        assert_eq!(answer, 1, "{}", field.name);
+        assert_changed(&after, &broken, &[]);
     }
 }
 
@@ -58,40 +62,72 @@ fn each_field_alone_can_break_the_state() {
 #[test]
 fn each_bit_of_the_record_is_a_kind_or_breaks_the_state() {
     for bit in 0..32 {
-        let answer = calls::clear_errors(with(&open(), "recorded", 1 << bit)).answer;
+        let answer = cleared(with(&open(), "recorded", 1 << bit));
         let is_kind = [5, 7, 8, 9].contains(&bit);
         assert_eq!(answer == 0, is_kind, "bit {bit}");
     }
 }
 
-/// A flag is 0 or 1; every other byte encodes nothing.
+/// Whether the field is 0 or 1; an operation in progress has one more.
+fn is_flag(name: &str) -> bool {
+    name.ends_with(".on")
+        || name.starts_with("bank_erase")
+        || ["provision_enabled", "seeds_locked"].contains(&name)
+}
+
+/// Every byte, and numbers over 255, some with the low bits of a small one.
+fn values() -> impl Iterator<Item = u32> {
+    let large = [1 << 16, 1 << 24, (1 << 24) + 1, 1 << 31, (1 << 31) + 1];
+    (0..520).chain(large).chain([u32::MAX - 1, u32::MAX])
+}
+
+/// A flag is 0 or 1; every other number encodes nothing.
 #[test]
-fn every_other_byte_in_a_flag_breaks_the_state() {
-    for field in fields::all() {
-        let flag = field.name.ends_with(".on")
-            || field.name.starts_with("bank_erase")
-            || ["provision_enabled", "seeds_locked"].contains(&field.name.as_str());
-        if !flag {
-            continue;
-        }
-        for value in 0..256 {
-            let answer = calls::clear_errors(with(&open(), &field.name, value)).answer;
+fn every_other_number_in_a_flag_breaks_the_state() {
+    for field in fields::all().iter().filter(|field| is_flag(&field.name)) {
+        for value in values() {
+            let answer = cleared(with(&open(), &field.name, value));
             assert_eq!(answer == 0, value <= 1, "{} = {value}", field.name);
         }
     }
 }
 
 #[test]
-fn every_other_byte_in_phase_and_rights_breaks_the_state() {
-    for value in 0..256 {
-        let phase = calls::clear_errors(with(&open(), "phase", value)).answer;
+fn every_other_number_in_rights_breaks_the_state() {
+    for field in fields::all() {
+        if !field.name.ends_with("rights") {
+            continue;
+        }
+        for value in values() {
+            let answer = cleared(with(&open(), &field.name, value));
+            assert_eq!(answer == 0, value <= 7, "{} = {value}", field.name);
+        }
+    }
+}
+
+#[test]
+fn every_other_number_in_phase_and_progress_breaks_the_state() {
+    for value in values() {
+        let answer = |field| cleared(with(&programming(), field, value));
+        let phase = cleared(with(&open(), "phase", value));
         assert_eq!(phase == 0, value <= 2, "phase {value}");
-        let rights = calls::clear_errors(with(&open(), "default_rights", value)).answer;
-        assert_eq!(rights == 0, value <= 7, "rights {value}");
-        let running = calls::clear_errors(with(&programming(), "progress.running", value)).answer;
+        let running = answer("progress.running");
         assert_eq!(running == 0, value <= 1, "running {value}");
-        let kind = with(&programming(), "progress.operation.kind", value);
-        let kind = calls::clear_errors(kind).answer;
+        let kind = answer("progress.operation.kind");
         assert_eq!(kind == 0, (1..=3).contains(&value), "kind {value}");
+        let partition = answer("progress.operation.partition");
+        assert_eq!(partition == 0, value <= 1, "partition {value}");
+        let info_type = answer("progress.operation.info_type");
+        assert_eq!(info_type == 0, value == 0 || value == 2, "type {value}");
+    }
+}
+
+/// No rule looks at the type of a data operation, but it is a byte.
+#[test]
+fn an_unused_type_in_progress_is_a_byte() {
+    let reading = reading();
+    for value in values() {
+        let answer = cleared(with(&reading, "progress.operation.info_type", value));
+        assert_eq!(answer == 0, value <= 255, "type {value}");
     }
 }

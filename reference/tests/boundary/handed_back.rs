@@ -1,8 +1,8 @@
-//! A refused call hands the flat struct back field for field, whatever stands
-//! in it, broken encodings and unused places included.
+//! A refused call leaves every number of the controller, whatever stands in it,
+//! broken encodings and unused places included.
 
 use crate::helpers::*;
-use reference::interface::flat::{Controller, Operation, PageSetting, Region};
+use reference::interface::flat::{Controller, Operation, PageSetting, Region, NUMBERS};
 use reference::interface::{calls, fields};
 
 /// Distinctive in every byte, and legal in no flag, right or phase.
@@ -10,41 +10,36 @@ fn mark(place: usize) -> u32 {
     0xA1B2_C300 + 0x0101_0100 * (place as u32 % 7) + (8 + place as u32)
 }
 
-/// Every call that takes a controller and hands one back, refused with 1 in a state that is not ours.
+/// Every call that may change a controller, refused with 1 in a state that is not ours, and what it leaves.
 fn refused_calls(c: Controller) -> Vec<(&'static str, u32, Controller)> {
-    let image = &mut image();
-    let buffer = &mut [0; 4];
-    let operation = Operation::default();
-    let plain = [
-        ("reset", calls::reset(c, 0)),
-        ("inputs", calls::set_inputs(c, 1, 1)),
-        ("region", calls::set_region(c, 0, Region::default())),
-        ("default rights", calls::set_default_rights(c, 1)),
-        (
-            "info page",
-            calls::set_info_page(c, 0, 0, 0, PageSetting::default()),
-        ),
-        ("bank erase", calls::set_bank_erase(c, 0, 1)),
-        ("clear", calls::clear_errors(c)),
-        ("start", calls::start(c, operation)),
-        ("push", calls::push(c, 5)),
-        ("RMA", calls::rma(c, image)),
+    type Refused = fn(&mut Controller) -> u32;
+    let list: [(&str, Refused); 15] = [
+        ("reset", |c| calls::reset(c, 0)),
+        ("inputs", |c| calls::set_inputs(c, 1, 1)),
+        ("region", |c| calls::set_region(c, 0, Region::default())),
+        ("default rights", |c| calls::set_default_rights(c, 1)),
+        ("info page", |c| {
+            calls::set_info_page(c, 0, 0, 0, PageSetting::default())
+        }),
+        ("bank erase", |c| calls::set_bank_erase(c, 0, 1)),
+        ("clear", calls::clear_errors),
+        ("start", |c| calls::start(c, Operation::default())),
+        ("push", |c| calls::push(c, 5)),
+        ("RMA", |c| calls::rma(c, &mut image())),
+        ("initialise", |c| calls::initialise(c, &image()).answer),
+        ("step", |c| calls::step(c, &mut image()).answer),
+        ("whole operation", |c| {
+            let operation = Operation::default();
+            calls::run(c, &mut image(), operation, &mut [0; 4]).answer
+        }),
+        ("pop", |c| calls::pop(c).answer),
+        ("host read", |c| calls::host_read(c, &image(), 0).answer),
     ];
-    let mut all: Vec<_> = plain
-        .into_iter()
-        .map(|(name, given)| (name, given.answer, given.controller))
-        .collect();
-    let given = calls::initialise(c, image);
-    all.push(("initialise", given.answer, given.controller));
-    let given = calls::step(c, image);
-    all.push(("step", given.answer, given.controller));
-    let given = calls::run(c, image, operation, buffer);
-    all.push(("whole operation", given.answer, given.controller));
-    let given = calls::pop(c);
-    all.push(("pop", given.answer, given.controller));
-    let given = calls::host_read(c, image, 0);
-    all.push(("host read", given.answer, given.controller));
-    all
+    let told = |(name, call): (_, Refused)| {
+        let (answer, after) = left(c, call);
+        (name, answer, after)
+    };
+    list.into_iter().map(told).collect()
 }
 
 fn assert_handed_back(c: Controller) {
@@ -60,20 +55,15 @@ fn each_field_alone_comes_back_from_a_refused_reset() {
         for (place, field) in fields::all().iter().enumerate() {
             let mut c = base;
             field.set(&mut c, mark(place));
-            assert_eq!(field.get(&c), field.fitted(mark(place)));
-            let given = calls::reset(c, 0);
-            assert_eq!(given.answer, 1);
-            assert_eq!(
-                fields::differences(&given.controller, &c),
-                [],
-                "{}",
-                field.name
-            );
+            assert_eq!(field.get(&c), mark(place));
+            let (answer, after) = left(c, |c| calls::reset(c, 0));
+            assert_eq!(answer, 1);
+            assert_eq!(fields::differences(&after, &c), [], "{}", field.name);
         }
     }
 }
 
-/// The phase is broken too, so that every call but the view hands it back.
+/// The phase is broken too, so that every call is refused.
 #[test]
 fn each_field_alone_comes_back_from_every_refused_call() {
     for (place, field) in fields::all().iter().enumerate() {
@@ -92,23 +82,46 @@ fn all_fields_at_once_come_back() {
     assert_handed_back(c);
 }
 
-/// The struct is covered: 135 fields, and all of its bytes but padding.
+/// A right over 255 alone is enough, in a state that is ours without it.
+#[test]
+fn large_rights_come_back() {
+    for field in [
+        "default_rights",
+        "regions[3].rights",
+        "info_pages[25].rights",
+    ] {
+        for value in [256, 263, 1 << 31, u32::MAX] {
+            assert_handed_back(with(&open(), field, value));
+        }
+    }
+}
+
+/// The controller is covered: each number has one name, and the array is the struct.
 #[test]
 fn every_field_is_in_the_list() {
     let names: std::collections::BTreeSet<_> = fields::all().iter().map(|f| &f.name).collect();
-    assert_eq!(fields::all().len(), 5 + 32 + 52 + 2 + 8 + 17 + 17 + 2);
-    assert_eq!(names.len(), fields::all().len());
+    assert_eq!(fields::all().len(), NUMBERS);
+    assert_eq!(names.len(), NUMBERS);
     let mut c = Controller::default();
-    for field in fields::all() {
-        field.set(&mut c, u32::MAX);
-        assert_eq!(field.get(&c), field.fitted(u32::MAX));
+    for (number, field) in fields::all().iter().enumerate() {
+        field.set(&mut c, 1_000 + number as u32);
     }
-    assert_eq!(c.regions[7].rights, 255);
-    assert_eq!(c.info_pages[25].rights, 255);
-    assert_eq!(c.bank_erase, [255, 255]);
-    assert_eq!(c.progress.operation.info_type, 255);
-    assert_eq!(c.program_queue.words, [u32::MAX; 16]);
-    assert_eq!(c.last_address, u32::MAX);
+    assert_eq!(*c.numbers(), std::array::from_fn(|i| 1_000 + i as u32));
+    let named = |name| fields::named(name).get(&c);
+    assert_eq!(named("regions[7].first_page"), c.regions[7].first_page);
+    assert_eq!(named("regions[7].page_count"), c.regions[7].page_count);
+    assert_eq!(named("regions[7].on"), c.regions[7].on);
+    assert_eq!(named("regions[7].rights"), c.regions[7].rights);
+    assert_eq!(named("info_pages[25].on"), c.info_pages[25].on);
+    assert_eq!(named("info_pages[25].rights"), c.info_pages[25].rights);
+    assert_eq!(named("bank_erase[1]"), c.bank_erase[1]);
+    let operation = c.progress.operation;
+    assert_eq!(named("progress.operation.kind"), operation.kind);
+    assert_eq!(named("progress.operation.info_type"), operation.info_type);
+    assert_eq!(named("progress.running"), c.progress.running);
+    assert_eq!(named("read_queue.length"), c.read_queue.length);
+    assert_eq!(named("program_queue.words[0]"), c.program_queue.words[0]);
+    assert_eq!(named("last_address"), c.last_address);
 }
 
 /// Refusals of a state that is ours keep what no rule looks at, too.
@@ -121,15 +134,18 @@ fn unused_places_come_back_from_a_state_that_is_ours() {
             field.set(&mut c, mark(place));
         }
     }
-    let (empty, unexpected) = (calls::pop(c), calls::step(c, &mut image()));
-    assert_eq!((empty.answer, unexpected.answer), (10, 12));
-    assert_changed(&empty.controller, &c, &[]);
-    assert_changed(&unexpected.controller, &c, &[]);
-    let recorded = calls::start(c, data(9, 0x44, 0));
-    assert_eq!(recorded.answer, 5);
-    assert_changed(
-        &recorded.controller,
-        &c,
-        &[("recorded", 1 << 5), ("last_address", 0x44)],
-    );
+    let (empty, after_pop) = left(c, |c| calls::pop(c).answer);
+    let (unexpected, after_step) = left(c, |c| calls::step(c, &mut image()).answer);
+    assert_eq!((empty, unexpected), (10, 12));
+    assert_changed(&after_pop, &c, &[]);
+    assert_changed(&after_step, &c, &[]);
+    let malformed = data(9, 0x44, 0);
+    let (started, after_start) = left(c, |c| calls::start(c, malformed));
+    let (run, after_run) = left(c, |c| {
+        calls::run(c, &mut image(), malformed, &mut []).answer
+    });
+    assert_eq!((started, run), (5, 5));
+    let recorded = [("recorded", 1 << 5), ("last_address", 0x44)];
+    assert_changed(&after_start, &c, &recorded);
+    assert_changed(&after_run, &c, &recorded);
 }

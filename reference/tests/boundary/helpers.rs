@@ -1,11 +1,11 @@
 //! What most boundary tests need.
 
 use reference::interface::{fields, flat};
-use reference::model::{self, INFORMATION};
+use reference::model;
 
 /// The D of a bench program.
 pub const D: u32 = 16;
-pub const INFO_PAGES_OF_TYPE: [(u8, u32); 3] = [(0, 10), (1, 1), (2, 2)];
+pub const INFO_PAGES_OF_TYPE: [(u32, u32); 3] = [(0, 10), (1, 1), (2, 2)];
 
 /// Just reset: everything else is 0.
 pub fn fresh() -> flat::Controller {
@@ -39,7 +39,7 @@ pub fn image() -> Vec<u32> {
     (0..model::image_words(D) as u32).collect()
 }
 
-pub fn data(kind: u8, address: u32, count: u32) -> flat::Operation {
+pub fn data(kind: u32, address: u32, count: u32) -> flat::Operation {
     flat::Operation {
         address,
         count,
@@ -48,9 +48,9 @@ pub fn data(kind: u8, address: u32, count: u32) -> flat::Operation {
     }
 }
 
-pub fn info(kind: u8, info_type: u8, address: u32, count: u32) -> flat::Operation {
+pub fn info(kind: u32, info_type: u32, address: u32, count: u32) -> flat::Operation {
     flat::Operation {
-        partition: INFORMATION,
+        partition: flat::INFORMATION,
         info_type,
         ..data(kind, address, count)
     }
@@ -62,7 +62,7 @@ pub fn with_progress(
     operation: flat::Operation,
     moved: u32,
 ) -> flat::Controller {
-    let read = operation.kind == model::READ;
+    let read = operation.kind == flat::READ;
     c.progress = flat::Progress {
         operation,
         moved,
@@ -79,6 +79,15 @@ pub fn with(c: &flat::Controller, field: &str, value: u32) -> flat::Controller {
     set
 }
 
+/// What a call gives, and the controller that it leaves of this one.
+pub fn left<T>(
+    mut c: flat::Controller,
+    call: impl FnOnce(&mut flat::Controller) -> T,
+) -> (T, flat::Controller) {
+    let given = call(&mut c);
+    (given, c)
+}
+
 /// Exactly these fields differ, with these values in the first.
 pub fn assert_changed(after: &flat::Controller, before: &flat::Controller, list: &[(&str, u32)]) {
     let changed: Vec<(&str, u32)> = fields::differences(after, before)
@@ -89,7 +98,7 @@ pub fn assert_changed(after: &flat::Controller, before: &flat::Controller, list:
 }
 
 /// Every information page: its place among the settings, bank, type and number.
-pub fn info_pages() -> Vec<(usize, u32, u8, u32)> {
+pub fn info_pages() -> Vec<(usize, u32, u32, u32)> {
     let mut pages = Vec::new();
     for bank in 0..2 {
         for (info_type, number) in INFO_PAGES_OF_TYPE {

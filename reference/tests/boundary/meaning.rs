@@ -2,24 +2,25 @@
 
 use crate::helpers::*;
 use reference::interface::calls;
-use reference::interface::flat::{self, Controller, PageSetting, Region};
-use reference::model::{BANK_ERASE, PAGE_ERASE, PROGRAM, READ};
+use reference::interface::flat::{
+    self, Controller, PageSetting, Region, BANK_ERASE, PAGE_ERASE, PROGRAM, READ,
+};
 
 /// The data pages that a host read may read.
 fn readable_pages(c: Controller) -> Vec<u32> {
     let image = image();
-    let allowed = |page: &u32| calls::host_read(c, &image, page * 1024).answer == 0;
+    let allowed = |page: &u32| calls::host_read(&c, &image, page * 1024).answer == 0;
     (0..2 * D).filter(allowed).collect()
 }
 
 /// The kinds among read, program and page erase that may start.
-fn kinds_allowed(c: Controller, operation: flat::Operation) -> Vec<u8> {
-    let starts = |kind: &u8| {
+fn kinds_allowed(c: Controller, operation: flat::Operation) -> Vec<u32> {
+    let starts = |kind: &u32| {
         let operation = flat::Operation {
             kind: *kind,
             ..operation
         };
-        calls::start(c, operation).answer == 0
+        left(c, |c| calls::start(c, operation)).0 == 0
     };
     [READ, PROGRAM, PAGE_ERASE]
         .into_iter()
@@ -27,13 +28,13 @@ fn kinds_allowed(c: Controller, operation: flat::Operation) -> Vec<u8> {
         .collect()
 }
 
-const KIND_OF_RIGHT: [(u8, u8); 3] = [(1, READ), (2, PROGRAM), (4, PAGE_ERASE)];
+const KIND_OF_RIGHT: [(u32, u32); 3] = [(1, READ), (2, PROGRAM), (4, PAGE_ERASE)];
 
 #[test]
 fn each_phase_is_understood() {
     for (phase, answer) in [(0, 3), (1, 12), (2, 2)] {
-        let c = with(&open(), "phase", phase);
-        assert_eq!(calls::step(c, &mut image()).answer, answer);
+        let mut c = with(&open(), "phase", phase);
+        assert_eq!(calls::step(&mut c, &mut image()).answer, answer);
     }
 }
 
@@ -42,9 +43,9 @@ fn d_is_understood() {
     for d in [10, 11, 200, 256] {
         let c = with(&open(), "data_pages", d);
         let image = vec![7; reference::model::image_words(d) as usize];
-        assert_eq!(calls::host_read(c, &image, 2 * d * 1024 - 4).answer, 0);
-        assert_eq!(calls::host_read(c, &image, 2 * d * 1024).answer, 7);
-        assert_eq!(calls::host_read(c, &image[1..], 0).answer, 1);
+        assert_eq!(calls::host_read(&c, &image, 2 * d * 1024 - 4).answer, 0);
+        assert_eq!(calls::host_read(&c, &image, 2 * d * 1024).answer, 7);
+        assert_eq!(calls::host_read(&c, &image[1..], 0).answer, 1);
     }
 }
 
@@ -95,7 +96,7 @@ fn the_order_of_the_regions_is_understood() {
 #[test]
 fn default_rights_are_understood() {
     for (rights, kind) in KIND_OF_RIGHT {
-        let c = with(&closed(), "default_rights", rights.into());
+        let c = with(&closed(), "default_rights", rights);
         assert_eq!(kinds_allowed(c, data(0, 0x4400, 1)), [kind]);
     }
 }
@@ -110,7 +111,7 @@ fn each_information_page_is_understood() {
             for (other, bank, info_type, page) in info_pages() {
                 let operation = info(0, info_type, (bank * D + page) * 1024, 1);
                 let allowed = kinds_allowed(c, operation);
-                let expected: &[u8] = if other == place { &[kind] } else { &[] };
+                let expected: &[u32] = if other == place { &[kind] } else { &[] };
                 assert_eq!(allowed, expected, "setting {place}, page {other}");
             }
             c.info_pages[place].on = 0;
@@ -126,7 +127,8 @@ fn each_bank_erase_permission_is_understood() {
     for bank in 0..2 {
         let c = with(&closed(), &format!("bank_erase[{bank}]"), 1);
         for other in 0..2 {
-            let answer = calls::start(c, data(BANK_ERASE, other * D * 1024, 0)).answer;
+            let erase = data(BANK_ERASE, other * D * 1024, 0);
+            let (answer, _) = left(c, |c| calls::start(c, erase));
             assert_eq!(answer, if other == bank { 0 } else { 9 });
         }
     }
@@ -141,7 +143,9 @@ fn each_input_is_understood() {
         let mut c = open();
         c.provision_enabled = provision;
         c.seeds_locked = locked;
-        assert_eq!(calls::start(c, info(READ, 0, 0x400, 1)).answer, creator);
-        assert_eq!(calls::start(c, info(READ, 0, 0x800, 1)).answer, owner);
+        for (address, answer) in [(0x400, creator), (0x800, owner)] {
+            let (given, _) = left(c, |c| calls::start(c, info(READ, 0, address, 1)));
+            assert_eq!(given, answer);
+        }
     }
 }

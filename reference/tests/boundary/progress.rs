@@ -2,8 +2,9 @@
 
 use crate::helpers::*;
 use reference::interface::calls;
-use reference::interface::flat::{self, Controller, Operation};
-use reference::model::{BANK_ERASE, PAGE_ERASE, PROGRAM, READ};
+use reference::interface::flat::{
+    self, Controller, Operation, BANK_ERASE, PAGE_ERASE, PROGRAM, READ,
+};
 
 /// Unused fields of the progress, to be overwritten by a start.
 fn with_old_progress(mut c: Controller) -> Controller {
@@ -11,9 +12,9 @@ fn with_old_progress(mut c: Controller) -> Controller {
         operation: Operation {
             address: 0x1111,
             count: 0x2222,
-            kind: 0x33,
-            partition: 0x44,
-            info_type: 0x55,
+            kind: 0x3333,
+            partition: 0x4444,
+            info_type: 0x5555,
         },
         moved: 0x6666,
         readable: 0x7777,
@@ -47,26 +48,60 @@ fn each_field_of_a_started_operation_is_left_in_progress() {
         ),
     ] {
         for base in [open(), with_old_progress(open())] {
-            let given = calls::start(base, operation);
+            let (answer, after) = left(base, |c| calls::start(c, operation));
             let progress = flat::Progress {
                 operation,
                 moved: 0,
                 readable,
                 running: 1,
             };
-            assert_eq!(given.answer, 0);
-            assert_eq!(given.controller, Controller { progress, ..base });
+            assert_eq!(answer, 0);
+            assert_eq!(after, Controller { progress, ..base });
         }
+    }
+}
+
+/// A kind, partition or type over 255 counts as 255, also where its low bits are those of a right one.
+#[test]
+fn each_large_field_of_an_operation_counts_as_255() {
+    for large in [256, 257, 259, 300, 1 << 16, 1 << 31, u32::MAX] {
+        let read = data(READ, 0x0404, 3);
+        let malformed = [
+            data(large, 0x0404, 3),
+            info(READ, large, 0x0404, 3),
+            Operation {
+                partition: large,
+                ..read
+            },
+        ];
+        for operation in malformed {
+            let (answer, after) = left(open(), |c| calls::start(c, operation));
+            assert_eq!(answer, 5, "{operation:?}");
+            let recorded = [("recorded", 1 << 5), ("last_address", 0x0404)];
+            assert_changed(&after, &open(), &recorded);
+        }
+        let unused = Operation {
+            info_type: large,
+            ..read
+        };
+        let (answer, after) = left(open(), |c| calls::start(c, unused));
+        assert_eq!(answer, 0);
+        assert_eq!(after.progress.operation.info_type, 255);
+        assert_changed(
+            &with(&after, "progress.operation.info_type", 0),
+            &with_progress(open(), read, 0),
+            &[],
+        );
     }
 }
 
 #[test]
 fn a_denied_read_is_in_progress_with_nothing_readable() {
     let operation = data(READ, 0x0404, 3);
-    let given = calls::start(with_old_progress(closed()), operation);
-    assert_eq!(given.answer, 9);
+    let (answer, mut after) = left(with_old_progress(closed()), |c| calls::start(c, operation));
+    assert_eq!(answer, 9);
     assert_changed(
-        &given.controller,
+        &after,
         &closed(),
         &[
             ("progress.operation.address", 0x0404),
@@ -76,17 +111,16 @@ fn a_denied_read_is_in_progress_with_nothing_readable() {
             ("last_address", 0x0404),
         ],
     );
-    let stepped = calls::step(given.controller, &mut image());
-    assert_eq!(stepped.controller.read_queue.words[0], u32::MAX);
+    calls::step(&mut after, &mut image());
+    assert_eq!(after.read_queue.words[0], u32::MAX);
 }
 
 /// The bus word that the next step of a read delivers, which tells its place.
 fn next_read(operation: Operation, moved: u32) -> u32 {
-    let c = with_progress(open(), operation, moved);
-    let given = calls::step(c, &mut image());
-    assert_eq!(given.answer, 0);
-    assert_eq!(given.controller.progress.moved, moved + 1);
-    calls::pop(given.controller).word
+    let mut c = with_progress(open(), operation, moved);
+    assert_eq!(calls::step(&mut c, &mut image()).answer, 0);
+    assert_eq!(c.progress.moved, moved + 1);
+    calls::pop(&mut c).word
 }
 
 /// Each field of an operation in progress alone moves the word that is read.
@@ -112,12 +146,11 @@ fn count_and_kind_in_progress_decide_the_end() {
     ] {
         let mut c = with_progress(open(), operation, words - 2);
         let mut image = image();
-        let given = calls::step(c, &mut image);
+        let given = calls::step(&mut c, &mut image);
         assert_eq!((given.answer, given.movement), (0, flat::MOVEMENT_MOVED));
-        c = given.controller;
-        let given = calls::step(c, &mut image);
+        let given = calls::step(&mut c, &mut image);
         assert_eq!((given.answer, given.movement), (0, flat::MOVEMENT_FINISHED));
-        assert_eq!(given.controller.progress, flat::Progress::default());
+        assert_eq!(c.progress, flat::Progress::default());
     }
 }
 
@@ -126,9 +159,9 @@ fn count_and_kind_in_progress_decide_the_end() {
 fn readable_of_a_program_is_free() {
     let mut c = with_progress(open(), data(PROGRAM, 0x0400, 4), 0);
     c.progress.readable = 0xABCD;
-    let given = calls::push(c, 5);
-    assert_eq!(given.answer, 0);
-    assert_eq!(given.controller.progress, c.progress);
+    let (answer, after) = left(c, |c| calls::push(c, 5));
+    assert_eq!(answer, 0);
+    assert_eq!(after.progress, c.progress);
 }
 
 #[test]
@@ -138,24 +171,23 @@ fn each_word_of_the_read_queue_is_popped_in_its_turn() {
         c.read_queue.length = length;
         c.read_queue.words = std::array::from_fn(|i| 0x0100_0000 * (i as u32 + 1) + 9);
         for i in 0..length {
-            let given = calls::pop(c);
+            let given = calls::pop(&mut c);
             assert_eq!((given.answer, given.word), (0, 0x0100_0000 * (i + 1) + 9));
-            assert_eq!(given.controller.read_queue.length, length - 1 - i);
-            c = given.controller;
+            assert_eq!(c.read_queue.length, length - 1 - i);
         }
-        assert_eq!(calls::pop(c).answer, 10);
+        assert_eq!(calls::pop(&mut c).answer, 10);
         assert_eq!(c, open());
     }
 }
 
 #[test]
 fn each_read_word_lands_in_the_next_place_of_the_read_queue() {
-    let mut c = calls::start(open(), data(READ, 0x0400, 20)).controller;
+    let (_, mut c) = left(open(), |c| calls::start(c, data(READ, 0x0400, 20)));
     let mut image = image();
     for place in 0..16 {
-        let given = calls::step(c, &mut image);
+        let (_, after) = left(c, |c| calls::step(c, &mut image));
         assert_changed(
-            &given.controller,
+            &after,
             &c,
             &[
                 ("progress.moved", place + 1),
@@ -163,39 +195,38 @@ fn each_read_word_lands_in_the_next_place_of_the_read_queue() {
                 ("read_queue.length", place + 1),
             ],
         );
-        c = given.controller;
+        c = after;
     }
-    let waiting = calls::step(c, &mut image);
+    let (waiting, after) = left(c, |c| calls::step(c, &mut image));
     assert_eq!(
         (waiting.answer, waiting.movement),
         (0, flat::MOVEMENT_STALLED)
     );
-    assert_changed(&waiting.controller, &c, &[]);
+    assert_changed(&after, &c, &[]);
 }
 
 #[test]
 fn each_pushed_word_lands_in_the_program_queue_and_then_in_flash() {
     let word = |place: u32| 0xF0F0_0000 | place;
-    let mut c = calls::start(open(), data(PROGRAM, 0x0440, 16)).controller;
+    let (_, mut c) = left(open(), |c| calls::start(c, data(PROGRAM, 0x0440, 16)));
     for place in 0..16 {
-        let given = calls::push(c, word(place));
-        assert_eq!(given.answer, 0);
+        let (answer, after) = left(c, |c| calls::push(c, word(place)));
+        assert_eq!(answer, 0);
         let field = format!("program_queue.words[{place}]");
         assert_changed(
-            &given.controller,
+            &after,
             &c,
             &[(&field, word(place)), ("program_queue.length", place + 1)],
         );
-        c = given.controller;
+        c = after;
     }
     let mut flash = vec![u32::MAX; image().len()];
     for place in 0..16 {
-        let given = calls::step(c, &mut flash);
+        let given = calls::step(&mut c, &mut flash);
         assert_eq!(given.answer, 0);
         assert_eq!(given.bits, word(place).count_zeros());
         assert_eq!(flash[272 + place as usize], word(place));
-        assert_eq!(given.controller.program_queue.length, 15 - place);
-        c = given.controller;
+        assert_eq!(c.program_queue.length, 15 - place);
     }
     assert_eq!(c, open());
     assert_eq!(flash.iter().filter(|word| **word != u32::MAX).count(), 16);
@@ -211,20 +242,16 @@ fn each_recorded_kind_has_its_bit_and_its_address() {
         (data(PROGRAM, 0x3C, 2), 8),
         (data(PROGRAM, 0x40, 1), 9),
     ] {
-        let given = calls::start(c, operation);
+        let (given, after) = left(c, |c| calls::start(c, operation));
         kinds |= 1 << answer;
-        assert_eq!(given.answer, answer);
+        assert_eq!(given, answer);
         assert_changed(
-            &given.controller,
+            &after,
             &c,
             &[("recorded", kinds), ("last_address", operation.address)],
         );
-        c = given.controller;
+        c = after;
     }
-    let cleared = calls::clear_errors(c);
-    assert_changed(
-        &cleared.controller,
-        &c,
-        &[("recorded", 0), ("last_address", 0)],
-    );
+    let (_, cleared) = left(c, calls::clear_errors);
+    assert_changed(&cleared, &c, &[("recorded", 0), ("last_address", 0)]);
 }

@@ -3,32 +3,35 @@
 
 use crate::helpers::*;
 use reference::interface::calls;
-use reference::interface::flat::{PageSetting, Region};
+use reference::interface::flat::{Controller, PageSetting, Region};
 
 #[test]
 fn reset_sets_d_alone() {
     for d in 10..=256 {
-        let given = calls::reset(open(), d);
-        assert_eq!(given.answer, 0);
-        assert_eq!(given.controller.data_pages, d);
-        assert_changed(&with(&given.controller, "data_pages", D), &fresh(), &[]);
+        let (answer, after) = left(open(), |c| calls::reset(c, d));
+        assert_eq!((answer, after.data_pages), (0, d));
+        assert_changed(&with(&after, "data_pages", D), &fresh(), &[]);
     }
 }
 
 #[test]
 fn each_input_lands_in_its_own_field() {
-    type Case<'a> = (u8, u8, &'a [(&'a str, u32)]);
-    let cases: [Case; 5] = [
+    type Case<'a> = (u32, u32, &'a [(&'a str, u32)]);
+    let cases: [Case; 7] = [
         (0, 0, &[]),
         (1, 0, &[("provision_enabled", 1)]),
         (0, 1, &[("seeds_locked", 1)]),
         (255, 0, &[("provision_enabled", 1)]),
         (0, 2, &[("seeds_locked", 1)]),
+        (256, 0, &[("provision_enabled", 1)]),
+        (0, 1 << 31, &[("seeds_locked", 1)]),
     ];
     for (provision_enabled, seeds_locked, changed) in cases {
-        let given = calls::set_inputs(fresh(), provision_enabled, seeds_locked);
-        assert_eq!(given.answer, 0);
-        assert_changed(&given.controller, &fresh(), changed);
+        let (answer, after) = left(fresh(), |c| {
+            calls::set_inputs(c, provision_enabled, seeds_locked)
+        });
+        assert_eq!(answer, 0);
+        assert_changed(&after, &fresh(), changed);
     }
 }
 
@@ -55,14 +58,15 @@ fn each_part_of_a_region_lands_in_its_own_field() {
         ),
         ("on", 1, Region { on: 1, ..none }),
         ("on", 1, Region { on: 254, ..none }),
+        ("on", 1, Region { on: 256, ..none }),
         ("rights", 5, Region { rights: 5, ..none }),
     ];
     for number in 0..8 {
         for (part, value, region) in parts {
-            let given = calls::set_region(fresh(), number, region);
-            assert_eq!(given.answer, 0);
+            let (answer, after) = left(fresh(), |c| calls::set_region(c, number, region));
+            assert_eq!(answer, 0);
             let field = format!("regions[{number}].{part}");
-            assert_changed(&given.controller, &fresh(), &[(&field, value)]);
+            assert_changed(&after, &fresh(), &[(&field, value)]);
         }
     }
 }
@@ -73,12 +77,15 @@ fn each_information_page_lands_in_its_own_fields() {
         for (part, value, setting) in [
             ("on", 1, PageSetting { on: 1, rights: 0 }),
             ("on", 1, PageSetting { on: 4, rights: 0 }),
+            ("on", 1, PageSetting { on: 512, rights: 0 }),
             ("rights", 6, PageSetting { on: 0, rights: 6 }),
         ] {
-            let given = calls::set_info_page(fresh(), bank, info_type, page, setting);
-            assert_eq!(given.answer, 0);
+            let (answer, after) = left(fresh(), |c| {
+                calls::set_info_page(c, bank, info_type, page, setting)
+            });
+            assert_eq!(answer, 0);
             let field = format!("info_pages[{place}].{part}");
-            assert_changed(&given.controller, &fresh(), &[(&field, value)]);
+            assert_changed(&after, &fresh(), &[(&field, value)]);
         }
     }
 }
@@ -86,54 +93,73 @@ fn each_information_page_lands_in_its_own_fields() {
 #[test]
 fn default_rights_and_bank_erases_land_in_their_own_fields() {
     for rights in 1..=7 {
-        let given = calls::set_default_rights(fresh(), rights);
-        assert_changed(
-            &given.controller,
-            &fresh(),
-            &[("default_rights", rights.into())],
-        );
+        let (_, after) = left(fresh(), |c| calls::set_default_rights(c, rights));
+        assert_changed(&after, &fresh(), &[("default_rights", rights)]);
     }
     for bank in 0..2 {
-        for on in [1, 2, 255] {
-            let given = calls::set_bank_erase(fresh(), bank, on);
-            let field = format!("bank_erase[{bank}]");
-            assert_changed(&given.controller, &fresh(), &[(&field, 1)]);
-        }
-        let given = calls::set_bank_erase(open(), bank, 0);
         let field = format!("bank_erase[{bank}]");
-        assert_changed(&given.controller, &open(), &[(&field, 0)]);
+        for on in [1, 2, 255, 256, u32::MAX] {
+            let (_, after) = left(fresh(), |c| calls::set_bank_erase(c, bank, on));
+            assert_changed(&after, &fresh(), &[(&field, 1)]);
+        }
+        let (_, after) = left(open(), |c| calls::set_bank_erase(c, bank, 0));
+        assert_changed(&after, &open(), &[(&field, 0)]);
     }
+}
+
+fn region(first_page: u32, page_count: u32, rights: u32) -> Region {
+    Region {
+        first_page,
+        page_count,
+        on: 1,
+        rights,
+    }
+}
+
+fn setting(rights: u32) -> PageSetting {
+    PageSetting { on: 1, rights }
+}
+
+fn assert_refused(call: impl FnOnce(&mut Controller) -> u32) {
+    let (answer, after) = left(fresh(), call);
+    assert_eq!(answer, 13);
+    assert_changed(&after, &fresh(), &[]);
 }
 
 /// Arguments out of range, each alone.
 #[test]
 fn each_bad_setting_is_refused() {
-    let c = fresh();
-    let region = |first_page, page_count, rights| Region {
-        first_page,
-        page_count,
-        on: 1,
-        rights,
-    };
-    let setting = |rights| PageSetting { on: 1, rights };
-    let refused = [
-        calls::set_region(c, 8, region(0, 1, 7)),
-        calls::set_region(c, u32::MAX, region(0, 1, 7)),
-        calls::set_region(c, 0, region(33, 0, 7)),
-        calls::set_region(c, 0, region(0, 33, 7)),
-        calls::set_region(c, 0, region(u32::MAX, 1, 7)),
-        calls::set_region(c, 0, region(0, 1, 8)),
-        calls::set_default_rights(c, 8),
-        calls::set_info_page(c, 2, 0, 0, setting(7)),
-        calls::set_info_page(c, 0, 3, 0, setting(7)),
-        calls::set_info_page(c, 0, 0, 10, setting(7)),
-        calls::set_info_page(c, 0, 1, 1, setting(7)),
-        calls::set_info_page(c, 0, 2, 2, setting(7)),
-        calls::set_info_page(c, 0, 0, 0, setting(8)),
-        calls::set_bank_erase(c, 2, 1),
-    ];
-    for (place, given) in refused.iter().enumerate() {
-        assert_eq!(given.answer, 13, "case {place}");
-        assert_changed(&given.controller, &c, &[]);
+    for (number, region) in [
+        (8, region(0, 1, 7)),
+        (u32::MAX, region(0, 1, 7)),
+        (0, region(33, 0, 7)),
+        (0, region(0, 33, 7)),
+        (0, region(u32::MAX, 1, 7)),
+        (0, region(0, 1, 8)),
+    ] {
+        assert_refused(|c| calls::set_region(c, number, region));
+    }
+    for (bank, info_type, page, rights) in [
+        (2, 0, 0, 7),
+        (0, 3, 0, 7),
+        (0, 0, 10, 7),
+        (0, 1, 1, 7),
+        (0, 2, 2, 7),
+        (0, 0, 0, 8),
+    ] {
+        assert_refused(|c| calls::set_info_page(c, bank, info_type, page, setting(rights)));
+    }
+    assert_refused(|c| calls::set_default_rights(c, 8));
+    assert_refused(|c| calls::set_bank_erase(c, 2, 1));
+}
+
+/// Over 255 is none, also where the low bits are those of a right value.
+#[test]
+fn each_large_setting_is_refused() {
+    for large in [256, 257, 263, 1 << 16, 1 << 31, u32::MAX] {
+        assert_refused(|c| calls::set_region(c, 0, region(0, 1, large)));
+        assert_refused(|c| calls::set_default_rights(c, large));
+        assert_refused(|c| calls::set_info_page(c, 0, 0, 0, setting(large)));
+        assert_refused(|c| calls::set_info_page(c, 0, large, 0, setting(7)));
     }
 }

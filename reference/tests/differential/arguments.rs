@@ -2,7 +2,7 @@
 
 use crate::dice::Dice;
 use reference::interface::flat;
-use reference::model::{self, Controller};
+use reference::model::Controller;
 
 /// Draws arguments that suit a state.
 pub struct Arguments<'a> {
@@ -19,17 +19,30 @@ impl Arguments<'_> {
     // -- settings ------------------------------------------------------------
 
     /// A flag argument is true at any other number than 0.
-    pub fn flag(&mut self) -> u8 {
-        self.dice.pick(&[0, 0, 0, 1, 1, 1, 2, 255])
+    pub fn flag(&mut self) -> u32 {
+        self.dice
+            .pick(&[0, 0, 0, 0, 1, 1, 1, 1, 2, 255, 256, 1 << 31])
+    }
+
+    /// Over 255, often with the low bits of a small number, which they must not be taken for.
+    fn large(&mut self) -> u32 {
+        let small = self.dice.below(8);
+        match self.dice.below(4) {
+            0 => 256 + small,
+            1 => (1 << self.dice.between(8, 31)) + small,
+            2 => self.dice.pick(&[300, 511, 1 << 16, 1 << 31, u32::MAX]),
+            _ => self.dice.word().max(256),
+        }
     }
 
     /// Often all rights or all but one.
-    pub fn rights(&mut self) -> u8 {
-        match self.dice.below(20) {
+    pub fn rights(&mut self) -> u32 {
+        match self.dice.below(40) {
             0 => self.dice.pick(&[8, 9, 15, 128, 255]),
-            1..=6 => 7,
-            7..=9 => 7 ^ self.dice.pick(&[1, 2, 4]),
-            _ => self.dice.below(8) as u8,
+            1 => self.large(),
+            2..=13 => 7,
+            14..=19 => 7 ^ self.dice.pick(&[1, 2, 4]),
+            _ => self.dice.below(8),
         }
     }
 
@@ -77,17 +90,18 @@ impl Arguments<'_> {
         }
     }
 
-    pub fn info_type(&mut self) -> u8 {
-        match self.dice.below(24) {
+    pub fn info_type(&mut self) -> u32 {
+        match self.dice.below(48) {
             0 => self.dice.pick(&[3, 4, 255]),
-            1..=5 => 1,
-            6..=11 => 2,
+            1 => self.large(),
+            2..=11 => 1,
+            12..=23 => 2,
             _ => 0,
         }
     }
 
     /// A page number in a type: also the first past its last.
-    pub fn page_of_type(&mut self, info_type: u8) -> u32 {
+    pub fn page_of_type(&mut self, info_type: u32) -> u32 {
         let pages = pages_of_type(info_type);
         match self.dice.below(16) {
             0 => pages,
@@ -126,7 +140,7 @@ impl Arguments<'_> {
     }
 
     /// A page of the address space that holds information pages of a type, or is next to them.
-    fn info_page(&mut self, info_type: u8) -> u32 {
+    fn info_page(&mut self, info_type: u32) -> u32 {
         let bank = self.dice.below(2) * self.data_pages();
         let page = match self.dice.below(8) {
             0 => self.data_pages() - 1,
@@ -176,17 +190,19 @@ impl Arguments<'_> {
     // -- operations ----------------------------------------------------------
 
     pub fn operation(&mut self) -> flat::Operation {
-        let kind = match self.dice.weighted(&[36, 36, 16, 8, 3]) {
+        let kind = match self.dice.weighted(&[36, 36, 16, 8, 2, 1]) {
             4 => self.dice.pick(&[4, 5, 9, 128, 255]),
-            known => known as u8,
+            5 => self.large(),
+            known => known as u32,
         };
-        let partition = match self.dice.weighted(&[58, 40, 2]) {
+        let partition = match self.dice.weighted(&[58, 40, 1, 1]) {
             2 => self.dice.pick(&[2, 3, 255]),
-            known => known as u8,
+            3 => self.large(),
+            known => known as u32,
         };
         let info_type = self.info_type();
         let page = match partition {
-            model::INFORMATION => self.info_page(info_type),
+            flat::INFORMATION => self.info_page(info_type),
             _ => self.data_page(),
         };
         let address = self.address(page);
@@ -199,7 +215,7 @@ impl Arguments<'_> {
         }
     }
 
-    fn count(&mut self, kind: u8, address: u32) -> u32 {
+    fn count(&mut self, kind: u32, address: u32) -> u32 {
         if self.dice.percent(4) {
             return self.dice.pick(&[
                 0,
@@ -213,8 +229,8 @@ impl Arguments<'_> {
             ]);
         }
         match kind {
-            model::READ => self.read_count(address),
-            model::PROGRAM => self.program_count(address),
+            flat::READ => self.read_count(address),
+            flat::PROGRAM => self.program_count(address),
             _ => self.dice.word(),
         }
     }
@@ -258,7 +274,7 @@ impl Arguments<'_> {
 }
 
 /// A type that is none has no pages; one stands for it, so that numbers can be drawn.
-fn pages_of_type(info_type: u8) -> u32 {
+fn pages_of_type(info_type: u32) -> u32 {
     match info_type {
         0 => 10,
         2 => 2,

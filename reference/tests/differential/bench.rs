@@ -196,9 +196,9 @@ fn page_at_work(c: &flat::Controller) -> Range<usize> {
         _ => c.data_pages + 11,
     };
     let place = match (operation.kind, operation.partition) {
-        (model::READ, _) => return 0..0,
-        (model::BANK_ERASE, _) => c.progress.moved / 256,
-        (_, model::DATA) => page_in_bank,
+        (flat::READ, _) => return 0..0,
+        (flat::BANK_ERASE, _) => c.progress.moved / 256,
+        (_, flat::DATA) => page_in_bank,
         _ => info + page_in_bank,
     };
     let start = (bank * (c.data_pages + 13) + place) as usize * 256;
@@ -223,8 +223,8 @@ fn the_page_at_work_is_where_01_puts_it() {
         c.progress.moved = moved;
         page_at_work(&c).start
     };
-    assert_eq!(at(model::PROGRAM, 0, 0, 0x4000, 0), 7_424);
-    assert_eq!(at(model::PROGRAM, 1, 0, 0x0400, 0), 4_352);
-    assert_eq!(at(model::PAGE_ERASE, 1, 2, 0x4400, 9), 7_424 + 28 * 256);
-    assert_eq!(at(model::BANK_ERASE, 1, 9, 0x4000, 257), 7_424 + 256);
+    assert_eq!(at(flat::PROGRAM, 0, 0, 0x4000, 0), 7_424);
+    assert_eq!(at(flat::PROGRAM, 1, 0, 0x0400, 0), 4_352);
+    assert_eq!(at(flat::PAGE_ERASE, 1, 2, 0x4400, 9), 7_424 + 28 * 256);
+    assert_eq!(at(flat::BANK_ERASE, 1, 9, 0x4000, 257), 7_424 + 256);
 }

@@ -2,8 +2,10 @@
 //! through its C interface and on the second program.
 
 use crate::dice::Dice;
-use reference::interface::{calls as library, flat};
-use reference::model::{self, Controller, InfoSetting, Progress, Region, NOT_OURS};
+use reference::interface::{
+    asked_byte, asked_flag, asked_operation, asked_region, asked_setting, calls as library, flat,
+};
+use reference::model::{self, Controller, Progress, NOT_OURS};
 use std::ops::Range;
 
 /// Image lengths are in bus words; a buffer holds what its seed gives before the call.
@@ -13,25 +15,25 @@ pub enum Call {
         data_pages: u32,
     },
     SetInputs {
-        provision_enabled: u8,
-        seeds_locked: u8,
+        provision_enabled: u32,
+        seeds_locked: u32,
     },
     SetRegion {
         number: u32,
         region: flat::Region,
     },
     SetDefaultRights {
-        rights: u8,
+        rights: u32,
     },
     SetInfoPage {
         bank: u32,
-        info_type: u8,
+        info_type: u32,
         page: u32,
         setting: flat::PageSetting,
     },
     SetBankErase {
         bank: u32,
-        on: u8,
+        on: u32,
     },
     ClearErrors,
     Initialise {
@@ -149,30 +151,29 @@ impl Outcome {
 }
 
 pub fn on_model(call: &Call, c: &mut flat::Controller, memory: &mut Memory) -> Outcome {
-    let plain = match *call {
-        Call::Reset { data_pages } => library::reset(*c, data_pages),
+    let answer = match *call {
+        Call::Reset { data_pages } => library::reset(c, data_pages),
         Call::SetInputs {
             provision_enabled,
             seeds_locked,
-        } => library::set_inputs(*c, provision_enabled, seeds_locked),
-        Call::SetRegion { number, region } => library::set_region(*c, number, region),
-        Call::SetDefaultRights { rights } => library::set_default_rights(*c, rights),
+        } => library::set_inputs(c, provision_enabled, seeds_locked),
+        Call::SetRegion { number, region } => library::set_region(c, number, region),
+        Call::SetDefaultRights { rights } => library::set_default_rights(c, rights),
         Call::SetInfoPage {
             bank,
             info_type,
             page,
             setting,
-        } => library::set_info_page(*c, bank, info_type, page, setting),
-        Call::SetBankErase { bank, on } => library::set_bank_erase(*c, bank, on),
-        Call::ClearErrors => library::clear_errors(*c),
-        Call::Start { operation } => library::start(*c, operation),
-        Call::Push { word } => library::push(*c, word),
-        Call::Rma { image_words } => library::rma(*c, memory.image(image_words)),
+        } => library::set_info_page(c, bank, info_type, page, setting),
+        Call::SetBankErase { bank, on } => library::set_bank_erase(c, bank, on),
+        Call::ClearErrors => library::clear_errors(c),
+        Call::Start { operation } => library::start(c, operation),
+        Call::Push { word } => library::push(c, word),
+        Call::Rma { image_words } => library::rma(c, memory.image(image_words)),
         _ => return on_model_with_values(call, c, memory),
     };
-    *c = plain.controller;
     Outcome {
-        answer: plain.answer,
+        answer,
         ..Outcome::default()
     }
 }
@@ -181,8 +182,7 @@ pub fn on_model(call: &Call, c: &mut flat::Controller, memory: &mut Memory) -> O
 fn on_model_with_values(call: &Call, c: &mut flat::Controller, memory: &mut Memory) -> Outcome {
     match *call {
         Call::Initialise { image_words } => {
-            let given = library::initialise(*c, memory.image(image_words));
-            *c = given.controller;
+            let given = library::initialise(c, memory.image(image_words));
             Outcome {
                 answer: given.answer,
                 seeds: given.seeds,
@@ -190,8 +190,7 @@ fn on_model_with_values(call: &Call, c: &mut flat::Controller, memory: &mut Memo
             }
         }
         Call::Step { image_words } => {
-            let given = library::step(*c, memory.image(image_words));
-            *c = given.controller;
+            let given = library::step(c, memory.image(image_words));
             Outcome {
                 answer: given.answer,
                 movement: given.movement,
@@ -206,31 +205,26 @@ fn on_model_with_values(call: &Call, c: &mut flat::Controller, memory: &mut Memo
             buffer_seed,
         } => {
             let (image, buffer) = memory.lend(image_words, buffer_words, buffer_seed);
-            let given = library::run(*c, image, operation, buffer);
-            *c = given.controller;
+            let given = library::run(c, image, operation, buffer);
             Outcome {
                 answer: given.answer,
                 bits: given.bits,
                 ..Outcome::default()
             }
         }
-        Call::Pop => fetched(c, library::pop(*c)),
+        Call::Pop => fetched(library::pop(c)),
         Call::HostRead {
             address,
             image_words,
-        } => fetched(
-            c,
-            library::host_read(*c, memory.image(image_words), address),
-        ),
+        } => fetched(library::host_read(c, memory.image(image_words), address)),
         Call::View { page, image_words } => {
-            viewed(library::view(*c, memory.image(image_words), page))
+            viewed(library::view(c, memory.image(image_words), page))
         }
         _ => unreachable!("it hands out its answer alone"),
     }
 }
 
-fn fetched(c: &mut flat::Controller, given: flat::Fetched) -> Outcome {
-    *c = given.controller;
+fn fetched(given: flat::Fetched) -> Outcome {
     Outcome {
         answer: given.answer,
         word: given.word,
@@ -264,13 +258,15 @@ pub fn on_second(call: &Call, state: &mut Option<Controller>, memory: &mut Memor
             seeds_locked,
         } => Outcome::answer(model::set_inputs(
             c,
-            provision_enabled != 0,
-            seeds_locked != 0,
+            asked_flag(provision_enabled),
+            asked_flag(seeds_locked),
         )),
         Call::SetRegion { number, region } => {
             Outcome::answer(model::set_region(c, number, asked_region(region)))
         }
-        Call::SetDefaultRights { rights } => Outcome::answer(model::set_default_rights(c, rights)),
+        Call::SetDefaultRights { rights } => {
+            Outcome::answer(model::set_default_rights(c, asked_byte(rights)))
+        }
         Call::SetInfoPage {
             bank,
             info_type,
@@ -279,15 +275,15 @@ pub fn on_second(call: &Call, state: &mut Option<Controller>, memory: &mut Memor
         } => Outcome::answer(model::set_info_page(
             c,
             bank,
-            info_type,
+            asked_byte(info_type),
             page,
             asked_setting(setting),
         )),
         Call::SetBankErase { bank, on } => {
-            Outcome::answer(model::set_bank_erase_permission(c, bank, on != 0))
+            Outcome::answer(model::set_bank_erase_permission(c, bank, asked_flag(on)))
         }
         Call::ClearErrors => Outcome::answer(model::clear(c)),
-        Call::Start { operation } => Outcome::answer(model::start(c, operation.into())),
+        Call::Start { operation } => Outcome::answer(model::start(c, asked_operation(operation))),
         Call::Push { word } => Outcome::answer(model::push(c, word)),
         Call::Rma { image_words } => Outcome::answer(model::rma(c, memory.image(image_words))),
         _ => on_second_with_values(call, c, memory),
@@ -305,7 +301,7 @@ fn on_second_with_values(call: &Call, c: &mut Controller, memory: &mut Memory) -
             buffer_seed,
         } => {
             let (image, buffer) = memory.lend(image_words, buffer_words, buffer_seed);
-            let given = model::whole(c, operation.into(), image, buffer);
+            let given = model::whole(c, asked_operation(operation), image, buffer);
             Outcome {
                 bits: given.bits,
                 ..Outcome::answer(given.refusal)
@@ -372,22 +368,5 @@ fn word_given(given: model::WordGiven) -> Outcome {
     Outcome {
         word: given.word,
         ..Outcome::answer(given.refusal)
-    }
-}
-
-/// A flag argument is false at 0 and true otherwise.
-fn asked_region(region: flat::Region) -> Region {
-    Region {
-        on: region.on != 0,
-        first_page: region.first_page,
-        page_count: region.page_count,
-        rights: region.rights,
-    }
-}
-
-fn asked_setting(setting: flat::PageSetting) -> InfoSetting {
-    InfoSetting {
-        on: setting.on != 0,
-        rights: setting.rights,
     }
 }

@@ -24,8 +24,8 @@ pub fn outcomes(call: &Call, model: &Outcome, second: &Outcome) -> Compared {
     }
 }
 
-/// The state that the model leaves: field for field what 01 leaves, and the
-/// second program's.
+/// The state that the model leaves: number for number what 01 and the header
+/// leave, and the second program's.
 pub fn states(
     call: &Call,
     answer: u32,
@@ -34,25 +34,19 @@ pub fn states(
     second: &Option<Controller>,
 ) -> Compared {
     let left = left_by(call, answer, before, second);
-    let compared = without_free_places(call, answer, before, after, &left);
-    if compared != left {
-        return Err(differences(&compared, &left));
+    if *after != left {
+        return Err(differences(after, &left));
     }
-    let (model, second) = (comparable(&to_reference(after)), comparable(second));
-    if model != second {
-        return Err(told(&model, &second));
+    let model = to_reference(after);
+    if model != *second {
+        return Err(told(&model, second));
     }
     Ok(())
 }
 
-/// The flat twin of a state, its queues as lists; None encodes nothing.
-fn comparable(state: &Option<Controller>) -> Option<flat::Controller> {
-    state.as_ref().map(|c| from_reference(&as_lists(c)))
-}
-
-fn told(model: &Option<flat::Controller>, second: &Option<flat::Controller>) -> String {
+fn told(model: &Option<Controller>, second: &Option<Controller>) -> String {
     match (model, second) {
-        (Some(model), Some(second)) => differences(model, second),
+        (Some(model), Some(second)) => differences(&from_reference(model), &from_reference(second)),
         _ => "one leaves a state that encodes nothing, the other does not".to_owned(),
     }
 }
@@ -65,7 +59,9 @@ fn differences(model: &flat::Controller, expected: &flat::Controller) -> String 
 }
 
 /// The flat controller that a call leaves, from the one before it and, where
-/// the call changes it, from the second program's.
+/// the call changes it, from the second program's. Past a queue's length the
+/// second program has zeros once it has used the queue, and leaves what stands
+/// there otherwise.
 fn left_by(
     call: &Call,
     answer: u32,
@@ -105,7 +101,7 @@ fn is_recorded(answer: u32) -> bool {
 
 /// A denied read still starts, blank.
 fn starts_blank(call: &Call, answer: u32) -> bool {
-    let read = call.operation().is_some_and(|o| o.kind == model::READ);
+    let read = call.operation().is_some_and(|o| o.kind == flat::READ);
     read && answer == u32::from(model::DENIED)
 }
 
@@ -128,57 +124,9 @@ fn starts_or_ends(call: &Call, before: &flat::Controller, left: &flat::Controlle
 fn keep_unused_progress(before: &flat::Controller, left: &mut flat::Controller) {
     if left.progress.running == 0 {
         left.progress = before.progress;
-    } else if left.progress.operation.kind != model::READ {
+    } else if left.progress.operation.kind != flat::READ {
         left.progress.readable = before.progress.readable;
     }
-}
-
-/// After an accepted call, a queue's places past its length are no part of an
-/// unchanged queue; those of a changed one are zeros.
-fn without_free_places(
-    call: &Call,
-    answer: u32,
-    before: &flat::Controller,
-    after: &flat::Controller,
-    left: &flat::Controller,
-) -> flat::Controller {
-    let mut compared = *after;
-    if answer == 0 || starts_blank(call, answer) {
-        free_places(
-            &before.read_queue,
-            &mut compared.read_queue,
-            &left.read_queue,
-        );
-        free_places(
-            &before.program_queue,
-            &mut compared.program_queue,
-            &left.program_queue,
-        );
-    }
-    compared
-}
-
-fn free_places(before: &flat::Queue, after: &mut flat::Queue, left: &flat::Queue) {
-    if held(before) == held(after) {
-        let first = held(after).len();
-        after.words[first..].copy_from_slice(&left.words[first..]);
-    }
-}
-
-/// The words that a queue holds.
-fn held(queue: &flat::Queue) -> &[u32] {
-    let length = queue.words.len().min(queue.length as usize);
-    &queue.words[..length]
-}
-
-/// The state with its queues as lists.
-fn as_lists(c: &Controller) -> Controller {
-    let mut c = c.clone();
-    for queue in [&mut c.read_queue, &mut c.program_queue] {
-        let first = queue.words.len().min(queue.length as usize);
-        queue.words[first..].fill(0);
-    }
-    c
 }
 
 /// The image and the buffer, whole.

@@ -20,10 +20,6 @@ impl Dice {
         (self.seed() >> 32) as u32
     }
 
-    pub fn byte(&mut self) -> u8 {
-        self.word() as u8
-    }
-
     /// 0 to `bound` - 1.
     pub fn below(&mut self, bound: u32) -> u32 {
         self.word() % bound

@@ -193,9 +193,9 @@ impl Generator {
         let operation = flat::Operation {
             address: self.dice.below(2) * bench.flat().data_pages * 1024,
             count: self.dice.word(),
-            kind: model::BANK_ERASE,
-            partition: self.dice.below(2) as u8,
-            info_type: self.dice.byte(),
+            kind: flat::BANK_ERASE,
+            partition: self.dice.below(2),
+            info_type: self.dice.word(),
         };
         Turn {
             writes: Vec::new(),

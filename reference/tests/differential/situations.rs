@@ -18,7 +18,7 @@ pub struct Met<'a> {
 
 type Situation = (&'static str, fn(&Met) -> bool);
 
-pub const SITUATIONS: [Situation; 19] = [
+pub const SITUATIONS: [Situation; 25] = [
     ("overlapping regions with other rights", |met| {
         let page = met.page();
         met.judged() && page.is_some_and(|page| overlap(met.before, page))
@@ -31,16 +31,16 @@ pub const SITUATIONS: [Situation; 19] = [
         met.answer(0) && met.read_span().is_some_and(|span| met.over_border(span))
     }),
     ("information span over its bank's end", |met| {
-        let span = met.operation(model::READ).filter(|o| o.partition == 1);
+        let span = met.operation(flat::READ).filter(|o| o.partition == 1);
         met.answer(7) && span.is_some_and(|o| met.over_border(pages(o)))
     }),
     ("program up to its window's end", |met| {
-        let program = met.operation(model::PROGRAM);
+        let program = met.operation(flat::PROGRAM);
         met.answer(0) && program.is_some_and(|o| (o.address + 4 * o.count) % 64 == 0)
     }),
     ("whole read of 1,024 words", |met| {
         let whole = matches!(met.call, Call::Run { .. });
-        whole && met.answer(0) && met.operation(model::READ).is_some_and(|o| o.count == 1024)
+        whole && met.answer(0) && met.operation(flat::READ).is_some_and(|o| o.count == 1024)
     }),
     ("whole operation with a word queued", |met| {
         let whole = matches!(met.call, Call::Run { .. });
@@ -60,6 +60,33 @@ pub const SITUATIONS: [Situation; 19] = [
     ("several fields broken", |met| {
         met.broken() && met.writes > 1
     }),
+    ("rights over 255 broken alone", |met| {
+        let rights = rights_of(met.before).any(|rights| rights > 255);
+        met.broken() && met.writes == 1 && rights
+    }),
+    ("type over 255 in progress broken alone", |met| {
+        let progress = &met.before.progress;
+        let large = progress.running == 1 && progress.operation.info_type > 255;
+        met.broken() && met.writes == 1 && large
+    }),
+    ("kind over 255 asked", |met| {
+        met.answer(5) && met.asked(|o| o.kind > 255)
+    }),
+    ("partition over 255 asked", |met| {
+        met.answer(5) && met.asked(|o| o.partition > 255)
+    }),
+    ("unused type over 255 asked", |met| {
+        met.answer(0) && met.asked(|o| o.info_type > 255)
+    }),
+    ("rights over 255 asked", |met| {
+        let rights = match met.call {
+            Call::SetRegion { region, .. } => region.rights,
+            Call::SetInfoPage { setting, .. } => setting.rights,
+            Call::SetDefaultRights { rights } => *rights,
+            _ => 0,
+        };
+        met.answer(13) && rights > 255
+    }),
     ("broken state reset", |met| {
         let reset = matches!(met.call, Call::Reset { .. });
         reset && met.answer(0) && met.before.phase > flat::PHASE_DISABLED
@@ -77,10 +104,10 @@ pub const SITUATIONS: [Situation; 19] = [
         view && met.answer(0) && met.before.progress.running == 1
     }),
     ("data bank erased by all its steps", |met| {
-        met.erased_by_steps(model::DATA)
+        met.erased_by_steps(flat::DATA)
     }),
     ("whole bank erased by all its steps", |met| {
-        met.erased_by_steps(model::INFORMATION)
+        met.erased_by_steps(flat::INFORMATION)
     }),
 ];
 
@@ -98,14 +125,18 @@ impl Met<'_> {
         self.answer(1) && !matches!(self.call, Call::Reset { .. })
     }
 
-    fn operation(&self, kind: u8) -> Option<Operation> {
+    fn operation(&self, kind: u32) -> Option<Operation> {
         self.call.operation().filter(|o| o.kind == kind)
+    }
+
+    fn asked(&self, is: impl Fn(&Operation) -> bool) -> bool {
+        self.call.operation().as_ref().is_some_and(is)
     }
 
     /// The first and the last page of a data read.
     fn read_span(&self) -> Option<(u32, u32)> {
-        let read = self.operation(model::READ)?;
-        (read.partition == model::DATA).then(|| pages(read))
+        let read = self.operation(flat::READ)?;
+        (read.partition == flat::DATA).then(|| pages(read))
     }
 
     fn over_border(&self, (first, last): (u32, u32)) -> bool {
@@ -137,9 +168,9 @@ impl Met<'_> {
         model::image_words(self.before.data_pages.min(256)) as usize
     }
 
-    fn erased_by_steps(&self, partition: u8) -> bool {
+    fn erased_by_steps(&self, partition: u32) -> bool {
         let progress = &self.before.progress;
-        let erase = progress.operation.kind == model::BANK_ERASE
+        let erase = progress.operation.kind == flat::BANK_ERASE
             && progress.operation.partition == partition;
         let finished = self.outcome.movement == flat::MOVEMENT_FINISHED;
         finished && erase && self.stepped == Some(progress.moved)
@@ -152,7 +183,14 @@ fn pages(operation: Operation) -> (u32, u32) {
     (operation.address / 1024, (last / 1024) as u32)
 }
 
-fn holding(c: &Controller, page: u32) -> impl Iterator<Item = u8> + '_ {
+/// All rights that stand in the state.
+fn rights_of(c: &Controller) -> impl Iterator<Item = u32> + '_ {
+    let regions = c.regions.iter().map(|r| r.rights);
+    let info_pages = c.info_pages.iter().map(|s| s.rights);
+    regions.chain(info_pages).chain([c.default_rights])
+}
+
+fn holding(c: &Controller, page: u32) -> impl Iterator<Item = u32> + '_ {
     let holds = move |r: &&flat::Region| {
         r.on == 1 && r.first_page <= page && page - r.first_page < r.page_count
     };
@@ -167,6 +205,6 @@ fn overlap(c: &Controller, page: u32) -> bool {
     }
 }
 
-fn rights(c: &Controller, page: u32) -> u8 {
+fn rights(c: &Controller, page: u32) -> u32 {
     holding(c, page).next().unwrap_or(c.default_rights)
 }

@@ -66,7 +66,7 @@ fn garbage(dice: &mut Dice) -> flat::Controller {
 fn rich(dice: &mut Dice, data_pages: u32) -> flat::Controller {
     let mut c = flat::Controller {
         data_pages,
-        phase: dice.weighted(&[15, 80, 5]) as u8,
+        phase: dice.weighted(&[15, 80, 5]) as u32,
         ..flat::Controller::default()
     };
     settle(dice, &mut c);
@@ -100,11 +100,11 @@ fn settle(dice: &mut Dice, c: &mut flat::Controller) {
     }
 }
 
-fn legal_rights(dice: &mut Dice) -> u8 {
+fn legal_rights(dice: &mut Dice) -> u32 {
     if dice.percent(50) {
         7
     } else {
-        dice.below(8) as u8
+        dice.below(8)
     }
 }
 
@@ -132,9 +132,9 @@ fn fill_free_places(dice: &mut Dice, c: &mut flat::Controller) {
         operation: flat::Operation {
             address: dice.word(),
             count: dice.word(),
-            kind: dice.byte(),
-            partition: dice.byte(),
-            info_type: dice.byte(),
+            kind: dice.word(),
+            partition: dice.word(),
+            info_type: dice.word(),
         },
         moved: dice.word(),
         readable: dice.word(),
@@ -185,7 +185,7 @@ fn field_written(dice: &mut Dice, c: &flat::Controller) -> Write {
     } else {
         dice.below(all.len() as u32) as usize
     };
-    let value = all[field].fitted(other_value(dice, c, all[field].get(c)));
+    let value = other_value(dice, c, all[field].get(c));
     Write { field, value }
 }
 
@@ -209,16 +209,17 @@ const DELICATE: [&str; 16] = [
     "last_address",
 ];
 
-/// A border of some rule, a neighbour of what stands there, or anything.
+/// A border of some rule, a neighbour of what stands there, the same in its low bits, or anything.
 fn other_value(dice: &mut Dice, c: &flat::Controller, value: u32) -> u32 {
     let d = c.data_pages;
-    match dice.below(8) {
+    match dice.below(10) {
         0 => value.wrapping_add(1),
         1 => value.wrapping_sub(1),
         2 => value ^ 1 << dice.below(32),
         3 => dice.word(),
-        4 => dice.pick(&[d - 1, d, d + 1, 2 * d - 1, 2 * d, 2 * d + 1, d * 1024]),
-        5 => dice.pick(&[9, 10, 15, 16, 17, 255, 256, 257, 1024, 1025, u32::MAX]),
+        4 => value.wrapping_add(dice.pick(&[1 << 8, 1 << 16, 1 << 24, 1 << 31])),
+        5 => dice.pick(&[d - 1, d, d + 1, 2 * d - 1, 2 * d, 2 * d + 1, d * 1024]),
+        6 => dice.pick(&[9, 10, 15, 16, 17, 255, 256, 257, 1024, 1025, u32::MAX]),
         _ => dice.below(10),
     }
 }

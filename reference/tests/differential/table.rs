@@ -3,7 +3,6 @@
 use crate::calls::{Call, Outcome};
 use crate::situations::{Met, SITUATIONS};
 use reference::interface::flat;
-use reference::model;
 use std::fmt::Write;
 
 const ANSWERS: usize = 14;
@@ -164,12 +163,12 @@ fn work_of(progress: &flat::Progress) -> Option<Work> {
         return None;
     }
     match (progress.operation.kind, progress.operation.partition) {
-        (model::READ, _) if progress.readable == 0 => Some(Work::BlankRead),
-        (model::READ, _) => Some(Work::Read),
-        (model::PROGRAM, _) => Some(Work::Program),
-        (model::PAGE_ERASE, _) => Some(Work::PageErase),
-        (model::BANK_ERASE, model::DATA) => Some(Work::DataBankErase),
-        (model::BANK_ERASE, _) => Some(Work::FullBankErase),
+        (flat::READ, _) if progress.readable == 0 => Some(Work::BlankRead),
+        (flat::READ, _) => Some(Work::Read),
+        (flat::PROGRAM, _) => Some(Work::Program),
+        (flat::PAGE_ERASE, _) => Some(Work::PageErase),
+        (flat::BANK_ERASE, flat::DATA) => Some(Work::DataBankErase),
+        (flat::BANK_ERASE, _) => Some(Work::FullBankErase),
         _ => None,
     }
 }

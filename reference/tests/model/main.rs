@@ -3,6 +3,7 @@
 mod bench_sheet;
 mod helpers;
 mod order_of_checks;
+mod plain_rust;
 mod random_runs;
 mod refusal_table;
 mod rma_and_seeds;

@@ -5,21 +5,21 @@ use crate::helpers::*;
 use reference::model::*;
 
 /// A small generator (xorshift), so that runs repeat.
-struct Dice(u64);
+pub struct Dice(pub u64);
 
 impl Dice {
-    fn word(&mut self) -> u32 {
+    pub fn word(&mut self) -> u32 {
         self.0 ^= self.0 << 13;
         self.0 ^= self.0 >> 7;
         self.0 ^= self.0 << 17;
         (self.0 >> 16) as u32
     }
 
-    fn below(&mut self, bound: u32) -> u32 {
+    pub fn below(&mut self, bound: u32) -> u32 {
         self.word() % bound
     }
 
-    fn coin(&mut self) -> bool {
+    pub fn coin(&mut self) -> bool {
         self.below(2) == 1
     }
 
@@ -34,7 +34,7 @@ impl Dice {
         }
     }
 
-    fn region(&mut self) -> Region {
+    pub fn region(&mut self) -> Region {
         Region {
             on: self.coin(),
             first_page: self.below(36),
@@ -51,7 +51,7 @@ impl Dice {
     }
 
     /// Mostly well formed, often near the borders.
-    fn operation(&mut self) -> Operation {
+    pub fn operation(&mut self) -> Operation {
         let near = [0, 0x400, 0x800, 0x2800, 0x4000, 0x6800, 0x8000];
         let base = near[self.below(7) as usize];
         let address = (base as u32)
@@ -106,7 +106,7 @@ impl Dice {
     }
 
     /// A ready controller with all rights, but for a few fields.
-    fn controller(&mut self) -> Controller {
+    pub fn controller(&mut self) -> Controller {
         let mut c = ready();
         for _ in 0..1 + self.below(3) {
             match self.below(14) {

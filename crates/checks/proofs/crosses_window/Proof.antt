@@ -17,6 +17,10 @@ crosses-window-spec =
     (λ c. search needs)
     (λ c. search needs)
     (λ c. search needs)
-    (λ c. let s = c .before .before .before .before .before in let one : s .args .o .kind ≡ 1 = eqb-true _ _ (sym (c .before .before .before .before .is-program .ensures) ∙ c .before .before .before .if1 .taken) in omega (arith, count-bound (s .args .o) (s .pre) (omega arith)))
+    (λ c.
+    let t = c .before .before .before in
+    let s = t .before .before in
+    let one : s .args .o .kind ≡ 1 = eqb-true _ _ (sym (t .before .is-program .ensures) ∙ t .if1 .taken) in
+    omega (arith, count-bound (s .args .o) (s .pre) (omega arith)))
     (λ c. simp (sym (c .before .before .before .before .is-program .ensures) ∙ c .before .before .before .if1 .taken))
     (λ c. simp (sym (c .before .is-program .ensures) ∙ c .if1 .left)))

@@ -17,7 +17,29 @@ form-answer-spec =
     (λ c κs. tt)
     (λ c κs. tt)
     (λ c κs. tt)
-    (λ c. simp (c .check .ensures, c .before .before .before .unaligned .ensures, c .before .before .before .before .before .is-information .ensures, c .before .before .before .before .before .before .no-partition .ensures, c .before .match .keys1, and-true, or-false))
-    (λ c. simp (c .check2 .ensures, c .before .before .before .unaligned .ensures, c .before .before .before .before .before .before .no-partition .ensures, c .before .match .keys2, and-false, or-false))
-    (λ c. let b = c .before .before .before in rw (c .check3 .ensures, b .bad-count .ensures, b .before .unaligned .ensures, b .before .before .before .is-information .ensures, b .before .before .before .before .no-partition .ensures, malformed-moving (b .before .before .before .before .before .before .args .o) (c .before .if1 .taken)))
+    (λ c. simp (
+      c .check .ensures,
+      c .before .before .before .unaligned .ensures,
+      c .before .before .before .before .before .is-information .ensures,
+      c .before .before .before .before .before .before .no-partition .ensures,
+      c .before .match .keys1,
+      and-true,
+      or-false,
+    ))
+    (λ c. simp (
+      c .check2 .ensures,
+      c .before .before .before .unaligned .ensures,
+      c .before .before .before .before .before .before .no-partition .ensures,
+      c .before .match .keys2,
+      and-false,
+      or-false,
+    ))
+    (λ c. let b = c .before .before .before in rw (
+      c .check3 .ensures,
+      b .bad-count .ensures,
+      b .before .unaligned .ensures,
+      b .before .before .before .is-information .ensures,
+      b .before .before .before .before .no-partition .ensures,
+      malformed-moving (b .before .before .before .before .before .before .args .o) (c .before .if1 .taken),
+    ))
     (λ c. let n = c .before .match .rest in rw (malformed-unknown (c .before .before .before .before .before .before .before .before .args .o) (omega (arith, c .if1 .left, n .0 .1, n .1)))))

@@ -12,4 +12,10 @@ out-of-range-spec =
     (λ c κs. tt)
     (λ c κs. tt)
     (λ c κs. tt)
-    (λ c. simp (c .span-address .ensures, c .before .span-words .ensures, c .before .before .span-limit .ensures, c .before .before .before .is-bank-erase .ensures, c .before .before .before .before .past-data .ensures)))
+    (λ c. simp (
+      c .span-address .ensures,
+      c .before .span-words .ensures,
+      c .before .before .span-limit .ensures,
+      c .before .before .before .is-bank-erase .ensures,
+      c .before .before .before .before .past-data .ensures,
+    )))

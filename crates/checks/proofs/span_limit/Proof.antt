@@ -18,7 +18,12 @@ span-limit-spec =
     (λ c. let s = c .before .before .before .before .before .before in omega (arith, bank-times (c .before .bank-of .result) (s .args .d) (c .before .bank-of .ensures .1), c .info-count .ensures .1))
     (λ c. let s = c .before .before .before .before .before .before in omega (arith, bank-times (c .before .bank-of .result) (s .args .d) (c .before .bank-of .ensures .1), c .info-count .ensures .1))
     (λ c. let s = c .before .before .before .before .before .before in omega (arith, bank-times (c .before .bank-of .result) (s .args .d) (c .before .bank-of .ensures .1), c .info-count .ensures .1))
-    (λ c. simp (c .info-count .ensures .0, c .before .bank-of .ensures .0, c .before .before .page-of .ensures .0, sym (c .before .before .before .before .before .is-information .ensures) ∙ c .before .before .before .before .if1 .taken))
+    (λ c. simp (
+      c .info-count .ensures .0,
+      c .before .bank-of .ensures .0,
+      c .before .before .page-of .ensures .0,
+      sym (c .before .before .before .before .before .is-information .ensures) ∙ c .before .before .before .before .if1 .taken,
+    ))
     (λ c. search needs)
     (λ c. search needs)
     (λ c. simp (sym (c .before .is-information .ensures) ∙ c .if1 .left)))

@@ -1,31 +1,39 @@
 -- `host::host_read` meets its contract. Assumes nothing.
 use mathlib.Core.Path.{_≡_, sym, _∙_}
+use borrow.Author.Tests.{not-true, not-false}
 use borrow.Author.Needs.{needs}
-use mathlib.Core.Bool.{true}
 use Rattle.model.specs.State.{flash}
 use Rattle.model.specs.Refusals.{accepts}
-use Rattle.model.specs.Steps.{delivered}
-use Rattle.model.specs.Host.{hostAnswer, hostRead}
-use Rattle.host.proofs.Inside.{read-inside}
+use Rattle.model.specs.Host.{hostAnswer}
+use Rattle.registers.specs.Registers.{decode}
+use Rattle.host.proofs.Hosted.{read-inside, read-accepted, read-refused}
 use Rattle.host.proofs.host_read.Statement.{statement}
 use Rattle.host.proofs.host_read.Tie as tie
 
--- In the branch that reads, the checks accepted.
-granted : (c : tie.Then1) → accepts (hostAnswer (c .before .before .before .before .args .c) (flash (c .before .before .before .before .args .image .now)) (c .before .before .before .before .args .at)) ≡ true
-granted c =
-    let a = c .before .before .host-answer in
-    let yes : accepts (a .result) ≡ true = sym (c .before .accepts .ensures) ∙ c .if1 .taken in
-    rw (a .ensures) at yes
+-- Whether the checks accepted.
+asked : (d : tie.After-accepts) →
+    let v = d .before .before .before .before .args in
+    d .accepts .result ≡ accepts (hostAnswer (decode (v .s .now)) (flash (v .image .now)) (v .at))
+asked d = rw (d .before .before .host-answer .ensures) at (d .accepts .ensures)
 
 pub host-read-spec : {M : Type 1} → statement M
-unfolding hostRead delivered
 host-read-spec =
     tie.close (tie.spec
     (λ c κs. tt)
     (λ c κs. tt)
-    (λ c κs. read-inside _ _ _ (granted c) .0)
+    (λ c κs. tt)
+    (λ c. let n = c .before .before in rw (n .number .ensures, n .before .host-answer .ensures) (read-refused _ _ _ (sym (asked (c .before)) ∙ not-true _ (c .if1 .taken))))
+    (λ c κs. tt)
+    (λ c κs. rw (c .pages .ensures) (read-inside _ _ _ (sym (asked (c .before .before)) ∙ not-false _ (c .before .if1 .left)) .0))
     (λ c. search needs)
     (λ c. search needs)
-    (λ c. let b = c .before .before in rw (b .word-at .ensures) (read-inside _ _ _ (granted (b .before)) .1))
-    (λ c. let b = c .before .before in simp (granted (b .before), b .word-at .ensures, b .before .before .before .host-answer .ensures))
-    (λ c. let b = c .before .before in let no = rw (b .host-answer .ensures) at (sym (c .before .accepts .ensures) ∙ c .if1 .left) in simp (no, b .host-answer .ensures)))
+    (λ c. let w = c .before .before in rw (w .word-at .ensures, w .before .pages .ensures) (read-inside _ _ _ (sym (asked (w .before .before .before)) ∙ not-false _ (w .before .before .if1 .left)) .1))
+    (λ c.
+    let w = c .before .before in
+    let n = w .before .before .before .before in
+    rw (
+      w .word-at .ensures,
+      w .before .pages .ensures,
+      n .number .ensures,
+      n .before .host-answer .ensures,
+    ) (read-accepted _ _ _ (sym (asked (w .before .before .before)) ∙ not-false _ (w .before .before .if1 .left)))))

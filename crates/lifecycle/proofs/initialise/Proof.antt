@@ -1,31 +1,44 @@
 -- `lifecycle::initialise` meets its contract. Assumes nothing.
-use mathlib.Core.Path.{_≡_}
-use mathlib.Core.Bool.{true, _&&_}
+use mathlib.Core.Path.{_≡_, sym, _∙_}
+use mathlib.Core.Bool.{true, false}
+use borrow.Author.Tests.{not-true, not-false}
 use Rattle.model.specs.State.{flash}
 use Rattle.model.specs.Refusals.{accepts}
-use Rattle.model.specs.Lifecycle.{initialiseAnswer, initialise}
-use Rattle.model.proofs.Bool.{and-left}
-use Rattle.model.proofs.Accepting.{lent-fits}
+use Rattle.model.specs.Lifecycle.{initialiseAnswer}
+use Rattle.registers.specs.Registers.{decode}
+use Rattle.lifecycle.proofs.Cycled.{initialise-refused, initialise-fits, initialise-accepted}
 use Rattle.lifecycle.proofs.initialise.Statement.{statement}
 use Rattle.lifecycle.proofs.initialise.Tie as tie
 
--- In the branch that hands out the seeds, the checks accepted and provision is on.
-granted : (c : tie.Then1) → (accepts (initialiseAnswer (c .before .before .before .before .before .before .before .before .before .before .args .c) (flash (c .before .before .before .before .before .before .before .before .before .before .args .image .now))) && c .before .before .before .before .before .before .before .before .before .before .args .c .setup .inputs .provision) ≡ true
-granted c = rw (c .before .before .accepts .ensures, c .before .before .before .before .before .before .before .initialise-answer .ensures) at (c .if1 .taken)
+-- Whether the checks accepted.
+asked : (d : tie.After-accepts) →
+    let v = d .before .before .before .before .args in
+    d .accepts .result ≡ accepts (initialiseAnswer (decode (v .s .now)) (flash (v .image .now)))
+asked d = rw (d .before .initialise-answer .ensures) at (d .accepts .ensures)
 
-seeds-of-requires : tie.Need-seeds-of-requires
-unfolding initialiseAnswer
-seeds-of-requires c κs = lent-fits _ _ _ (and-left _ _ (granted c))
+-- In the branch that writes the phase, they did.
+granted : (d : tie.After-put-phase) →
+    let v = d .before .before .before .before .before .before .before .before .before .before .before .args in
+    accepts (initialiseAnswer (decode (v .s .now)) (flash (v .image .now))) ≡ true
+granted d = let t = d .before .before .before .before .before .before in sym (asked (t .before)) ∙ not-false _ (t .if1 .left)
 
 pub initialise-spec : {M : Type 1} → statement M
-unfolding initialise
 initialise-spec =
     tie.close (tie.spec
     (λ c κs. tt)
     (λ c κs. tt)
     (λ c κs. tt)
     (λ c κs. tt)
-    seeds-of-requires
-    (λ c. let b = c .before in let s = b .before .before .before .before .before in rw (c .seeds-of .ensures, s .settle .ensures, s .before .with-phase .ensures, s .before .before .initialise-answer .ensures, granted b))
+    (λ c. let d = c .before .before .before in rw (
+      c .no-seeds .ensures,
+      c .before .number .ensures,
+      d .before .initialise-answer .ensures,
+    ) (initialise-refused _ _ (sym (asked d) ∙ not-true _ (c .before .before .if1 .taken))))
     (λ c κs. tt)
-    (λ c. let b = c .before in let s = b .before .before .before .before .before in let a = s .before .before in let no = rw (b .before .before .accepts .ensures, a .initialise-answer .ensures) at (b .if1 .left) in rw (c .no-seeds .ensures, s .settle .ensures, s .before .with-phase .ensures, a .initialise-answer .ensures, no)))
+    (λ c κs. tt)
+    (λ c κs. tt)
+    (λ c κs. rw (c .before .before .before .before .before .pages .ensures) (initialise-fits _ _ (granted (c .before))))
+    (λ c. let d = c .before .before in let i = d .before .before in rw (c .seeds-of .ensures, i .before .before .pages .ensures, d .put-phase .ensures)
+    (initialise-accepted _ _ (granted d) true (rw (i .inputs .ensures) at (c .before .if2 .taken))))
+    (λ c κs. tt)
+    (λ c. let d = c .before .before in rw (c .no-seeds2 .ensures, d .put-phase .ensures) (initialise-accepted _ _ (granted d) false (rw (d .before .before .inputs .ensures) at (c .before .if2 .left)))))

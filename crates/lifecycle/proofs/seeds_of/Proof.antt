@@ -13,4 +13,5 @@ seeds-of-spec =
     (λ c κs. search needs)
     (λ c κs. search needs)
     (λ c κs. rw (c .first-word2 .ensures, c .before .special-page2 .ensures .0) (omega arith))
-    (λ c. rw (c .seed2 .ensures, c .before .first-word2 .ensures, c .before .before .special-page2 .ensures .0, c .before .before .before .seed .ensures, c .before .before .before .before .first-word .ensures, c .before .before .before .before .before .special-page .ensures .0)))
+    (λ c. let b = c .before .before in let d = b .before in
+    rw (c .seed2 .ensures, c .before .first-word2 .ensures, b .special-page2 .ensures .0, d .seed .ensures, d .before .first-word .ensures, d .before .before .special-page .ensures .0)))

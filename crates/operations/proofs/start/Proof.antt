@@ -1,19 +1,31 @@
 -- `operations::start` meets its contract. Assumes nothing.
 use mathlib.Core.Path.{sym, _∙_}
 use borrow.Author.Tests.{not-true, not-false}
-use Rattle.model.specs.Steps.{start}
+use Rattle.operations.proofs.Left.{start-early, start-begins, start-goes}
 use Rattle.operations.proofs.start.Statement.{statement}
 use Rattle.operations.proofs.start.Tie as tie
 
 pub start-spec : {M : Type 1} → statement M
-unfolding start
 start-spec =
     tie.close (tie.spec
     (λ c κs. tt)
     (λ c κs. tt)
     (λ c κs. tt)
+    (λ c.
+    let f = c .before .before .before in
+    rw (c .number .ensures)
+    (start-early (f .before .before .args .s .now) (f .before .before .args .o) (f .start-answer .result) (f .start-answer .ensures)
+    (sym (c .before .before .accepts .ensures) ∙ not-true _ (c .before .if1 .taken))))
     (λ c κs. tt)
+    (λ c κs.
+    let f = c .before .before .before .before .before in
+    start-begins (f .before .before .args .s .now) (f .before .before .args .o) (f .start-answer .result) (f .start-answer .ensures)
+    (sym (c .before .before .before .before .accepts .ensures) ∙ not-false _ (c .before .before .before .if1 .left))
+    (c .before .operation-answer .result) (c .before .operation-answer .ensures))
     (λ c κs. tt)
-    (λ c. simp (c .refused .ensures, c .before .before .before .or-else .ensures, c .before .before .before .before .before .start-answer .ensures, rw (c .before .before .before .before .before .start-answer .ensures) at (sym (c .before .before .accepts .ensures) ∙ not-true _ (c .before .if1 .taken))))
-    (λ c κs. simp (c .before .before .or-else .ensures, sym (c .before .accepts .ensures) ∙ not-false _ (c .if1 .left), c .before .before .before .operation-answer .ensures))
-    (λ c. simp (c .started .ensures, c .before .before .before .or-else .ensures, c .before .before .before .before .operation-answer .ensures, c .before .before .before .before .before .start-answer .ensures, rw (c .before .before .before .before .before .start-answer .ensures) at (sym (c .before .before .accepts .ensures) ∙ not-false _ (c .before .if1 .left)))))
+    (λ c.
+    let f = c .before .before .before .before .before .before .before in
+    rw (c .number2 .ensures, c .before .started .ensures)
+    (start-goes (f .before .before .args .s .now) (f .before .before .args .o) (f .start-answer .result) (f .start-answer .ensures)
+    (sym (c .before .before .before .before .before .before .accepts .ensures) ∙ not-false _ (c .before .before .before .before .before .if1 .left))
+    (c .before .before .before .operation-answer .result) (c .before .before .before .operation-answer .ensures))))

@@ -1,10 +1,9 @@
 -- `queueing::push` meets its contract. Assumes nothing.
-use mathlib.Core.Path.{refl, sym, ap, _∙_}
+use mathlib.Core.Path.{sym, ap, _∙_}
 use borrow.Author.Tests.{leb-false, not-true, not-false}
 use borrow.Author.Needs.{needs}
-use Rattle.model.specs.Steps.{pushAnswer}
 use Rattle.model.specs.declared.Progress.the-variants.{Running}
-use Rattle.model.proofs.Accepting.{push-unready, push-refused, push-accepted, no-program, nothing-running, all-pushed, programs-full, programs-room}
+use Rattle.queueing.proofs.Pushed.{push-early, push-idle, push-other, push-all, push-full, push-joins}
 use Rattle.queueing.proofs.push.Statement.{statement}
 use Rattle.queueing.proofs.push.Tie as tie
 
@@ -14,22 +13,63 @@ push-spec =
     (λ c κs. tt)
     (λ c κs. tt)
     (λ c κs. tt)
+    (λ c.
+    let r = c .before .before .before in
+    let a = r .before .before in
+    rw (c .number .ensures)
+    (push-early (a .args .s .now) (a .args .word) (r .ready .result)
+    (r .ready .ensures)
+    (sym (c .before .before .accepts .ensures) ∙ not-true _ (c .before .if1 .taken))))
     (λ c κs. tt)
-    (λ c. rw (c .refused .ensures, c .before .before .before .ready-answer .ensures, c .before .before .before .before .valid .ensures) (push-unready _ _ (rw (c .before .before .before .ready-answer .ensures, c .before .before .before .before .valid .ensures) at (sym (c .before .before .accepts .ensures) ∙ not-true _ (c .before .if1 .taken)))))
     (λ c. search needs)
     (λ c. search needs)
-    (λ c κs. tt)
-    (λ c. rw (c .refused2 .ensures) (push-refused _ _ _ (rw (c .before .before .before .before .before .ready-answer .ensures, c .before .before .before .before .before .before .valid .ensures) at (sym (c .before .before .before .before .accepts .ensures) ∙ not-false _ (c .before .before .before .if1 .left))) (nothing-running _ (c .before .enum-told .given .1)) refl))
+    (λ c.
+    let r = c .before .before .before .before .before .before in
+    let a = r .before .before in
+    push-idle (a .args .s .now) (a .args .word) (r .ready .result)
+    (r .ready .ensures)
+    (sym (c .before .before .before .before .before .accepts .ensures) ∙ not-false _ (c .before .before .before .before .if1 .left))
+    (sym (c .before .before .progress .ensures) ∙ c .enum-told .given .1))
     (λ c. search needs)
-    (λ c κs. tt)
-    (λ c. rw (c .refused3 .ensures) (push-refused _ _ _ (rw (c .before .before .before .before .before .before .before .ready-answer .ensures, c .before .before .before .before .before .before .before .before .valid .ensures) at (sym (c .before .before .before .before .before .before .accepts .ensures) ∙ not-false _ (c .before .before .before .before .before .if1 .left))) (ap (pushAnswer (c .before .before .before .before .before .before .before .before .before .args .c)) (c .before .before .before .progress .given .1) ∙ no-program _ _ (c .before .match2 .keys2)) refl))
-    (λ c κs. tt)
-    (λ c κs. tt)
-    (λ c. rw (c .refused4 .ensures) (push-refused _ _ _ (rw (c .before .before .before .before .before .before .before .before .before .before .before .before .before .ready-answer .ensures, c .before .before .before .before .before .before .before .before .before .before .before .before .before .before .valid .ensures) at (sym (c .before .before .before .before .before .before .before .before .before .before .before .before .accepts .ensures) ∙ not-false _ (c .before .before .before .before .before .before .before .before .before .before .before .if1 .left))) (ap (pushAnswer (c .before .before .before .before .before .before .before .before .before .before .before .before .before .before .before .args .c)) (c .before .before .before .before .before .before .before .before .before .progress .given .1 ∙ ap Running (c .before .before .before .before .before .before .work .given .1)) ∙ all-pushed _ _ _ (sym (c .before .before .pushed-all .ensures) ∙ c .before .if2 .taken)) refl))
-    (λ c κs. tt)
-    (λ c κs. tt)
-    (λ c. rw (c .refused5 .ensures) (push-refused _ _ _ (rw (c .before .before .before .before .before .before .before .before .before .before .before .before .before .before .before .ready-answer .ensures, c .before .before .before .before .before .before .before .before .before .before .before .before .before .before .before .before .valid .ensures) at (sym (c .before .before .before .before .before .before .before .before .before .before .before .before .before .before .accepts .ensures) ∙ not-false _ (c .before .before .before .before .before .before .before .before .before .before .before .before .before .if1 .left))) (ap (pushAnswer (c .before .before .before .before .before .before .before .before .before .before .before .before .before .before .before .before .before .args .c)) (c .before .before .before .before .before .before .before .before .before .before .before .progress .given .1 ∙ ap Running (c .before .before .before .before .before .before .before .before .work .given .1)) ∙ programs-full _ _ _ (sym (c .before .before .before .before .pushed-all .ensures) ∙ c .before .before .before .if2 .left) (sym (c .before .before .is-full .ensures) ∙ c .before .if3 .taken)) refl))
-    (λ c κs. leb-false 16 _ (sym (c .before .is-full .ensures) ∙ c .if3 .left))
+    (λ c.
+    let r = c .before .before .before .before .before .before .before .before in
+    let a = r .before .before in
+    push-other (a .args .s .now) (a .args .word) (r .ready .result)
+    (r .ready .ensures)
+    (sym (c .before .before .before .before .before .before .before .accepts .ensures) ∙ not-false _ (c .before .before .before .before .before .before .if1 .left))
+    (c .before .before .progress2 .given .0 .0) (sym (c .before .before .before .before .progress .ensures) ∙ c .before .before .progress2 .given .1) (c .match2 .keys2))
     (λ c κs. tt)
     (λ c κs. tt)
-    (λ c. simp (c .with-queues .ensures, c .before .with-programs .ensures, c .before .before .push .ensures) (push-accepted _ _ (rw (c .before .before .before .before .before .before .before .before .before .before .before .before .before .before .before .before .before .ready-answer .ensures, c .before .before .before .before .before .before .before .before .before .before .before .before .before .before .before .before .before .before .valid .ensures) at (sym (c .before .before .before .before .before .before .before .before .before .before .before .before .before .before .before .before .accepts .ensures) ∙ not-false _ (c .before .before .before .before .before .before .before .before .before .before .before .before .before .before .before .if1 .left))) (ap (pushAnswer (c .before .before .before .before .before .before .before .before .before .before .before .before .before .before .before .before .before .before .before .args .c)) (c .before .before .before .before .before .before .before .before .before .before .before .before .before .progress .given .1 ∙ ap Running (c .before .before .before .before .before .before .before .before .before .before .work .given .1)) ∙ programs-room _ _ _ (sym (c .before .before .before .before .before .before .pushed-all .ensures) ∙ c .before .before .before .before .before .if2 .left) (sym (c .before .before .before .before .is-full .ensures) ∙ c .before .before .before .if3 .left)))))
+    (λ c.
+    let m = c .before .before .before .before .before in
+    let r = m .before .before .before .before .before .before .before .before .before in
+    let a = r .before .before in
+    push-all (a .args .s .now) (a .args .word) (r .ready .result)
+    (r .ready .ensures)
+    (sym (m .before .before .before .before .before .before .before .before .accepts .ensures) ∙ not-false _ (m .before .before .before .before .before .before .before .if1 .left))
+    _ _ (sym (m .before .before .before .before .before .progress .ensures) ∙ m .before .before .before .progress2 .given .1 ∙ ap Running (m .work .given .1))
+    (rw (c .before .before .programs .ensures) at (sym (c .before .pushed-all .ensures) ∙ c .if2 .taken)))
+    (λ c κs. tt)
+    (λ c.
+    let m = c .before .before .before .before .before .before .before in
+    let r = m .before .before .before .before .before .before .before .before .before in
+    let a = r .before .before in
+    push-full (a .args .s .now) (a .args .word) (r .ready .result)
+    (r .ready .ensures)
+    (sym (m .before .before .before .before .before .before .before .before .accepts .ensures) ∙ not-false _ (m .before .before .before .before .before .before .before .if1 .left))
+    _ _ (sym (m .before .before .before .before .before .progress .ensures) ∙ m .before .before .before .progress2 .given .1 ∙ ap Running (m .work .given .1))
+    (rw (c .before .before .before .before .programs .ensures) at (sym (c .before .before .before .pushed-all .ensures) ∙ c .before .before .if2 .left))
+    (rw (c .before .before .before .before .programs .ensures) at (sym (c .before .is-full .ensures) ∙ c .if3 .taken)))
+    (λ c κs. leb-false 16 _ (sym (c .before .before .is-full .ensures) ∙ c .before .if3 .left))
+    (λ c κs. tt)
+    (λ c.
+    let m = c .before .before .before .before .before .before .before .before .before .before in
+    let r = m .before .before .before .before .before .before .before .before .before in
+    let a = r .before .before in
+    rw (c .put-programs .ensures, c .before .push .ensures, c .before .before .before .before .before .before .before .programs .ensures)
+    (push-joins (a .args .s .now) (a .args .word) (r .ready .result)
+    (r .ready .ensures)
+    (sym (m .before .before .before .before .before .before .before .before .accepts .ensures) ∙ not-false _ (m .before .before .before .before .before .before .before .if1 .left))
+    _ _ (sym (m .before .before .before .before .before .progress .ensures) ∙ m .before .before .before .progress2 .given .1 ∙ ap Running (m .work .given .1))
+    (rw (c .before .before .before .before .before .before .before .programs .ensures) at (sym (c .before .before .before .before .before .before .pushed-all .ensures) ∙ c .before .before .before .before .before .if2 .left))
+    (rw (c .before .before .before .before .before .before .before .programs .ensures) at (sym (c .before .before .before .before .is-full .ensures) ∙ c .before .before .before .if3 .left)))))

@@ -1,15 +1,16 @@
 -- `settings::clear` meets its contract. Assumes nothing.
-use Rattle.model.specs.Errors.{clear}
+use mathlib.Core.Path.{sym, _∙_}
+use borrow.Author.Tests.{not-true, not-false}
+use Rattle.settings.proofs.Configured.{clear-refused, clear-accepted}
 use Rattle.settings.proofs.clear.Statement.{statement}
 use Rattle.settings.proofs.clear.Tie as tie
 
 pub clear-spec : {M : Type 1} → statement M
-unfolding clear
 clear-spec =
     tie.close (tie.spec
     (λ c κs. tt)
     (λ c κs. tt)
+    (λ c. rw (c .number .ensures) (clear-refused _ (sym (c .before .before .valid .ensures) ∙ not-true _ (c .before .if1 .taken))))
     (λ c κs. tt)
     (λ c κs. tt)
-    (λ c κs. tt)
-    (λ c. rw (c .settle .ensures, c .before .with-errors .ensures, c .before .before .no-errors .ensures, c .before .before .before .check .ensures, c .before .before .before .before .valid .ensures)))
+    (λ c. rw (c .put-errors .ensures, c .before .no-errors .ensures) (clear-accepted _ (sym (c .before .before .before .before .valid .ensures) ∙ not-false _ (c .before .before .before .if1 .left)))))

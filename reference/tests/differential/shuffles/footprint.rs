@@ -2,7 +2,6 @@
 
 use super::{Ended, Item};
 use reference::interface::flat;
-use reference::model;
 use std::collections::BTreeSet;
 
 /// The image's pages that a list touches.
@@ -28,7 +27,7 @@ pub fn footprint(data_pages: u32, items: &[Item], ended: &Ended) -> Footprint {
         if given.answer == 0 {
             let touched = pages_of(data_pages, &item.operation);
             let pages = match item.operation.kind {
-                model::READ => &mut foot.read,
+                flat::READ => &mut foot.read,
                 _ => &mut foot.written,
             };
             pages.extend(touched);
@@ -43,7 +42,7 @@ fn pages_of(data_pages: u32, operation: &flat::Operation) -> Vec<usize> {
     let page_at = |address: u32| {
         let page = address / 1024;
         let own = match (operation.partition, operation.info_type) {
-            (model::DATA, _) => 0,
+            (flat::DATA, _) => 0,
             (_, 0) => data_pages,
             (_, 1) => data_pages + 10,
             _ => data_pages + 11,
@@ -52,12 +51,12 @@ fn pages_of(data_pages: u32, operation: &flat::Operation) -> Vec<usize> {
     };
     let words = |n: u32| (0..n).map(|i| page_at(operation.address + 4 * i)).collect();
     match operation.kind {
-        model::READ | model::PROGRAM => words(operation.count),
-        model::PAGE_ERASE => words(1),
+        flat::READ | flat::PROGRAM => words(operation.count),
+        flat::PAGE_ERASE => words(1),
         _ => {
             let first = operation.address / 1024 / data_pages * bank_pages;
             let covered = match operation.partition {
-                model::DATA => data_pages,
+                flat::DATA => data_pages,
                 _ => bank_pages,
             };
             (first..first + covered).map(|page| page as usize).collect()

@@ -5,7 +5,9 @@ mod footprint;
 mod trials;
 
 use footprint::{footprint, keep_apart, Footprint};
-use reference::interface::{calls as library, fields, flat, from_reference, to_reference};
+use reference::interface::{
+    asked_operation, calls as library, fields, flat, from_reference, to_reference,
+};
 use reference::model::{self, Controller};
 
 pub use trials::trials;
@@ -155,8 +157,7 @@ fn on_model(beginning: &Beginning, items: &[Item]) -> Ended {
     } = beginning.clone();
     let mut run = |item: &Item| {
         let mut buffer = item.buffer.clone();
-        let done = library::run(c, &mut image, item.operation, &mut buffer);
-        c = done.controller;
+        let done = library::run(&mut c, &mut image, item.operation, &mut buffer);
         Given {
             answer: done.answer,
             bits: done.bits,
@@ -176,7 +177,8 @@ fn on_second(beginning: &Beginning, items: &[Item]) -> Ended {
     let mut image = beginning.image.clone();
     let mut run = |item: &Item| {
         let mut buffer = item.buffer.clone();
-        let done = model::whole(&mut c, item.operation.into(), &mut image, &mut buffer);
+        let operation = asked_operation(item.operation);
+        let done = model::whole(&mut c, operation, &mut image, &mut buffer);
         Given {
             answer: done.refusal.into(),
             bits: done.bits,
@@ -193,7 +195,7 @@ fn on_second(beginning: &Beginning, items: &[Item]) -> Ended {
 
 // -- the claim's own tests -------------------------------------------------
 
-fn item(list: List, kind: u8, address: u32) -> Item {
+fn item(list: List, kind: u32, address: u32) -> Item {
     let operation = flat::Operation {
         address,
         count: 1,
@@ -224,21 +226,21 @@ fn erased_with_all_rights() -> Beginning {
 /// Two readers may share a page; a writer shares with nobody, over its whole erase.
 #[test]
 fn the_premise_is_about_the_pages_that_are_written() {
-    let holds = |left: (u8, u32), right: (u8, u32)| {
+    let holds = |left: (u32, u32), right: (u32, u32)| {
         let shuffle = [
             item(List::Left, left.0, left.1),
             item(List::Right, right.0, right.1),
         ];
         claim(&erased_with_all_rights(), &shuffle).is_some()
     };
-    assert!(holds((model::READ, 0x400), (model::READ, 0x404)));
-    assert!(holds((model::PROGRAM, 0x400), (model::PROGRAM, 0x800)));
-    assert!(!holds((model::PROGRAM, 0x400), (model::PROGRAM, 0x7FC)));
-    assert!(!holds((model::PAGE_ERASE, 0x400), (model::READ, 0x7FC)));
-    assert!(!holds((model::READ, 0x2400), (model::BANK_ERASE, 0)));
-    assert!(holds((model::READ, 0x2800), (model::BANK_ERASE, 0)));
+    assert!(holds((flat::READ, 0x400), (flat::READ, 0x404)));
+    assert!(holds((flat::PROGRAM, 0x400), (flat::PROGRAM, 0x800)));
+    assert!(!holds((flat::PROGRAM, 0x400), (flat::PROGRAM, 0x7FC)));
+    assert!(!holds((flat::PAGE_ERASE, 0x400), (flat::READ, 0x7FC)));
+    assert!(!holds((flat::READ, 0x2400), (flat::BANK_ERASE, 0)));
+    assert!(holds((flat::READ, 0x2800), (flat::BANK_ERASE, 0)));
     // An operation that is refused touches no page.
-    assert!(holds((model::PROGRAM, 0x400), (model::PROGRAM, 0x7FD)));
+    assert!(holds((flat::PROGRAM, 0x400), (flat::PROGRAM, 0x7FD)));
 }
 
 /// A shuffle that gives, leaves or records anything else does not pass.
@@ -246,8 +248,8 @@ fn the_premise_is_about_the_pages_that_are_written() {
 fn a_wrong_end_is_told() {
     let beginning = erased_with_all_rights();
     let shuffle = [
-        item(List::Left, model::PROGRAM, 0x400),
-        item(List::Right, model::PROGRAM, 0x800),
+        item(List::Left, flat::PROGRAM, 0x400),
+        item(List::Right, flat::PROGRAM, 0x800),
         item(List::Left, 9, 0),
     ];
     let [left, right] = [List::Left, List::Right].map(|list| of(&shuffle, list));

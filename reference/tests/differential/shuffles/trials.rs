@@ -106,7 +106,7 @@ impl Trials {
     }
 
     fn item(&mut self, data_pages: u32, list: List, owners: &[Owner]) -> Item {
-        let kind = [0, 1, 2, 3, 4][self.dice.weighted(&[40, 40, 16, 3, 1])];
+        let kind = [0, 1, 2, 3, 4, 256][self.dice.weighted(&[80, 80, 32, 6, 1, 1])];
         let page = self.page_for(list, kind, owners);
         let operation = self.operation_on(data_pages, kind, page);
         let room = operation.count.min(64) + self.dice.below(4);
@@ -118,12 +118,12 @@ impl Trials {
         }
     }
 
-    fn page_for(&mut self, list: List, kind: u8, owners: &[Owner]) -> u32 {
+    fn page_for(&mut self, list: List, kind: u32, owners: &[Owner]) -> u32 {
         let anywhere = self.dice.percent(2);
         loop {
             let page = self.dice.below(owners.len() as u32);
             let owner = owners[page as usize];
-            let shared = kind == model::READ && owner == Owner::Nobody;
+            let shared = kind == flat::READ && owner == Owner::Nobody;
             if anywhere || shared || owner == Owner::One(list) {
                 return page;
             }
@@ -135,18 +135,18 @@ impl Trials {
     }
 
     /// An operation on a page of the image, rarely spoiled.
-    fn operation_on(&mut self, data_pages: u32, kind: u8, page: u32) -> flat::Operation {
+    fn operation_on(&mut self, data_pages: u32, kind: u32, page: u32) -> flat::Operation {
         let bank_pages = data_pages + 13;
         let (bank, place) = (page / bank_pages, page % bank_pages);
         let (partition, info_type, page_in_bank) = match place.checked_sub(data_pages) {
-            None => (model::DATA, self.dice.byte(), place),
-            Some(info @ 0..=9) => (model::INFORMATION, 0, info),
-            Some(10) => (model::INFORMATION, 1, 0),
-            Some(info) => (model::INFORMATION, 2, info - 11),
+            None => (flat::DATA, self.dice.word(), place),
+            Some(info @ 0..=9) => (flat::INFORMATION, 0, info),
+            Some(10) => (flat::INFORMATION, 1, 0),
+            Some(info) => (flat::INFORMATION, 2, info - 11),
         };
         let word = self.dice.below(256);
         let count = match kind {
-            model::PROGRAM if self.dice.percent(88) => self.dice.between(1, 16 - word % 16),
+            flat::PROGRAM if self.dice.percent(88) => self.dice.between(1, 16 - word % 16),
             _ => self.dice.between(1, 20),
         };
         let spoiled = u32::from(self.dice.percent(3));

@@ -1,0 +1,165 @@
+-- The calls on registers: what each tells, as numbers, and what it leaves of the registers, the flash and the buffer that it is
+-- lent. Each is the model's call on the controller that the registers stand for. (house)
+use Prim.Native.Nat.{ℕ}
+use mathlib.Core.Bool.{Bool, _||_, cond}
+use mathlib.Core.List.{List}
+use Rattle.model.specs.State.{Flash, Leaves}
+use Rattle.model.specs.Refusals.{numberOf, accepts}
+use Rattle.model.specs.Errors.{isRecorded, clear}
+use Rattle.model.specs.Settings.{setInputs, setRegion, setDefault, setInfo, setErase}
+use Rattle.model.specs.Lifecycle.{reset, initialise, rma}
+use Rattle.model.specs.Steps.{start, push, pop, step}
+use Rattle.model.specs.Host.{hostRead, viewAnswer, view}
+use Rattle.model.specs.Whole.{WholeLeaves, whole}
+use Rattle.model.specs.declared.Page.{Page}
+use Rattle.model.specs.declared.ByteAddress.{ByteAddress}
+use Rattle.model.specs.declared.Inputs.{Inputs}
+use Rattle.model.specs.declared.Region.{Region}
+use Rattle.model.specs.declared.PageSetting.{PageSetting}
+use Rattle.model.specs.declared.Operation.{Operation}
+use Rattle.model.specs.declared.Controller.{Controller}
+use Rattle.model.specs.declared.Answer.{Answer}
+use Rattle.model.specs.declared.Movement.{Movement}
+use Rattle.model.specs.declared.Movement.the-variants.{None, Moved, Finished, Stalled}
+use Rattle.model.specs.declared.Outcome.{Outcome}
+use Rattle.model.specs.declared.Fetched.{Fetched}
+use Rattle.model.specs.declared.Stepped.{Stepped}
+use Rattle.model.specs.declared.Initialised.{Initialised}
+use Rattle.registers.specs.Registers.{flagOf, decode, handBack, cleared}
+use Rattle.calls.specs.declared.ToldWord.{ToldWord}
+use Rattle.calls.specs.declared.ToldStep.{ToldStep}
+use Rattle.calls.specs.declared.ToldBits.{ToldBits}
+use Rattle.calls.specs.declared.ToldStart.{ToldStart}
+use Rattle.calls.specs.declared.ToldSeeds.{ToldSeeds}
+
+-- What a call tells and leaves: of the registers alone,
+pub record Left (Told : Type 0) : Type 0 where
+  pub told : Told
+  pub registers : List ℕ
+
+-- of the flash too,
+pub record LeftFlash (Told : Type 0) : Type 0 where
+  pub told : Told
+  pub registers : List ℕ
+  pub flash : Flash
+
+-- and of a buffer.
+pub record LeftBuffer (Told : Type 0) : Type 0 where
+  pub told : Told
+  pub registers : List ℕ
+  pub flash : Flash
+  pub buffer : List ℕ
+
+-- What is told of a movement.
+abbrev pub movementNumber : Movement → ℕ
+movementNumber None = 0
+movementNumber Moved = 1
+movementNumber Finished = 2
+movementNumber Stalled = 3
+
+-- ---- calls that change the registers where they are accepted, and leave every register as it was where they are refused
+
+abbrev pub outcomeLeft : List ℕ → Outcome → Left ℕ
+outcomeLeft s r = record { told = numberOf (r .answer); registers = handBack (accepts (r .answer)) s (r .controller) }
+
+unfoldable pub setInputsIn : List ℕ → Inputs → Left ℕ
+setInputsIn s i = outcomeLeft s (setInputs (decode s) i)
+
+unfoldable pub setRegionIn : List ℕ → ℕ → Region → Left ℕ
+setRegionIn s i g = outcomeLeft s (setRegion (decode s) i g)
+
+unfoldable pub setDefaultIn : List ℕ → ℕ → Left ℕ
+setDefaultIn s r = outcomeLeft s (setDefault (decode s) r)
+
+unfoldable pub setInfoIn : List ℕ → ℕ → ℕ → ℕ → PageSetting → Left ℕ
+setInfoIn s bank t page p = outcomeLeft s (setInfo (decode s) bank t page p)
+
+unfoldable pub setEraseIn : List ℕ → ℕ → Bool → Left ℕ
+setEraseIn s bank on = outcomeLeft s (setErase (decode s) bank on)
+
+unfoldable pub clearIn : List ℕ → Left ℕ
+clearIn s = outcomeLeft s (clear (decode s))
+
+unfoldable pub pushIn : List ℕ → ℕ → Left ℕ
+pushIn s w = outcomeLeft s (push (decode s) w)
+
+abbrev pub wordLeft : List ℕ → Fetched → Left ToldWord
+wordLeft s r = record {
+  told = record { answer = numberOf (r .answer); word = r .word };
+  registers = handBack (accepts (r .answer)) s (r .controller);
+}
+
+unfoldable pub popIn : List ℕ → Left ToldWord
+popIn s = wordLeft s (pop (decode s))
+
+abbrev pub seedsLeft : List ℕ → Initialised → Left ToldSeeds
+seedsLeft s r = record {
+  told = record {
+    answer = numberOf (r .answer);
+    creator = r .seeds .creator;
+    owner = r .seeds .owner;
+    given = flagOf (r .seeds .given);
+  };
+  registers = handBack (accepts (r .answer)) s (r .controller);
+}
+
+unfoldable pub initialiseIn : List ℕ → Flash → Left ToldSeeds
+initialiseIn s f = seedsLeft s (initialise (decode s) f)
+
+abbrev pub stepLeft : List ℕ → Leaves Stepped → LeftFlash ToldStep
+stepLeft s l = record {
+  told = record { answer = numberOf (l .result .answer); movement = movementNumber (l .result .movement); bits = l .result .bits };
+  registers = handBack (accepts (l .result .answer)) s (l .result .controller);
+  flash = l .flash;
+}
+
+unfoldable pub stepIn : List ℕ → Flash → LeftFlash ToldStep
+stepIn s f = stepLeft s (step (decode s) f)
+
+abbrev pub rmaLeft : List ℕ → Leaves Outcome → LeftFlash ℕ
+rmaLeft s l = record {
+  told = numberOf (l .result .answer);
+  registers = handBack (accepts (l .result .answer)) s (l .result .controller);
+  flash = l .flash;
+}
+
+unfoldable pub rmaIn : List ℕ → Flash → LeftFlash ℕ
+rmaIn s f = rmaLeft s (rma (decode s) f)
+
+-- ---- a reset that is accepted leaves zeros, whatever the registers held
+
+unfoldable pub resetIn : List ℕ → ℕ → Left ℕ
+resetIn s d = record {
+  told = numberOf (reset (decode s) d .answer);
+  registers = cond (accepts (reset (decode s) d .answer)) (cleared s d) s;
+}
+
+-- ---- start and whole operations, whose refusals may be recorded: a recorded one changes the registers too
+
+abbrev pub changes : Answer → Bool
+changes a = accepts a || isRecorded (numberOf a)
+
+abbrev pub startLeft : List ℕ → Outcome → Left ℕ
+startLeft s r = record { told = numberOf (r .answer); registers = handBack (changes (r .answer)) s (r .controller) }
+
+unfoldable pub startIn : List ℕ → Operation → Left ℕ
+startIn s o = startLeft s (start (decode s) o)
+
+abbrev pub wholeLeft : List ℕ → WholeLeaves → LeftBuffer ToldBits
+wholeLeft s l = record {
+  told = record { answer = numberOf (l .result .answer); bits = l .result .bits };
+  registers = handBack (changes (l .result .answer)) s (l .result .controller);
+  flash = l .flash;
+  buffer = l .buffer;
+}
+
+unfoldable pub wholeIn : List ℕ → Flash → Operation → List ℕ → LeftBuffer ToldBits
+wholeIn s f o b = wholeLeft s (whole (decode s) f o b)
+
+-- ---- calls that look at the registers and change nothing
+
+unfoldable pub hostReadIn : List ℕ → Flash → ByteAddress → ToldWord
+hostReadIn s f a = record { answer = numberOf (hostRead (decode s) f a .answer); word = hostRead (decode s) f a .word }
+
+unfoldable pub viewIn : List ℕ → Flash → Page → ToldStart
+viewIn s f p = record { answer = numberOf (viewAnswer (decode s) f p); start = view (decode s) f p .start .0 }

@@ -1,3 +1,0 @@
--- The calls over the flat state.
-
-pub mod Calls

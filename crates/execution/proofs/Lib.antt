@@ -1,3 +1,0 @@
--- Laws of a whole operation's checks.
-
-pub mod Checked

@@ -1,3 +1,0 @@
--- The flat state that C and Rust hold.
-
-pub mod Encoding

@@ -1,0 +1,3 @@
+-- Laws of the look-ups.
+
+pub mod Permissions

@@ -1,0 +1,154 @@
+// Who may touch a page, and checks 5, 7, 8 and 9, on the state where it lies.
+ghost use mathlib.Core.Path.{_≡_};
+ghost use mathlib.Core.Bool.{false, not};
+ghost use Prim.Native.Nat.{_+_, _<_, _≤_, _%_};
+ghost use lib.ListN.{getD};
+ghost use Rattle.model.specs.Rights.{dataRights, infoRights, pageRights, rightsAt, pageGrants, leading, allowedWords, denied};
+ghost use Rattle.model.specs.Places.{spanWords};
+ghost use mathlib.Core.Bool.{cond};
+ghost use Rattle.model.specs.Refusals.{isDenied};
+ghost use Rattle.model.specs.Checks.{malformed, operationAnswer};
+ghost use Rattle.model.specs.State.{pageOff};
+ghost use Rattle.registers.specs.Layout.{defaultAt};
+ghost use Rattle.registers.specs.Registers.{regionsOf, infoOf, settingsOf, inputsAt, standsFor};
+use model::Answer;
+use model::Operation;
+use model::Page;
+use model::PageSetting;
+use registers::Registers;
+
+fn data_rights(s: &Registers, p: Page) -> u8
+    ensures { λ r. ⌜ r ≡ dataRights (regionsOf (now (s .entry))) (getD (now (s .entry)) defaultAt 0 % 256) p ⌝ }
+{
+    let other = registers::default_rights(s);
+    let mut i: usize = 0;
+    loop {
+        if i == 8 {
+            break other;
+        }
+        let g = registers::region(s, i);
+        if rights::decides(p, g) {
+            break g.rights;
+        }
+        i += 1;
+    }
+}
+
+fn page_setting(s: &Registers, page: usize) -> PageSetting
+    ensures { λ r. ⌜ r ≡ getD (infoOf (now (s .entry))) page pageOff ⌝ }
+{
+    if page < 26 {
+        return registers::page_setting(s, page);
+    }
+    PageSetting {
+        on: false,
+        rights: 0,
+    }
+}
+
+fn info_rights(s: &Registers, page: usize) -> u8
+    ensures { λ r. ⌜ r ≡ infoRights (inputsAt (now (s .entry))) (settingsOf (now (s .entry))) page ⌝ }
+{
+    let inputs = registers::inputs(s);
+    if rights::seed_closed(inputs, page) {
+        return 0;
+    }
+    rights::page_rights(page_setting(s, page))
+}
+
+// The rights of a page of either partition.
+pub fn rights_at(s: &Registers, information: bool, t: u8, p: Page) -> u8
+    ensures { λ r. ⌜ r ≡ rightsAt (standsFor (now (s .entry)) .setup) information t p ⌝ }
+{
+    if information {
+        let d = registers::pages(s);
+        let bank = geometry::bank_of(d, p);
+        let page = geometry::page_in_bank(d, p);
+        return info_rights(s, geometry::info_index(bank, t, page));
+    }
+    data_rights(s, p)
+}
+
+fn page_grants(s: &Registers, o: Operation, p: u32) -> bool
+    ensures { λ r. ⌜ r ≡ pageGrants (standsFor (now (s .entry)) .setup) o p ⌝ }
+{
+    let information = places::is_information(o);
+    let rights = rights_at(s, information, o.info, Page(p));
+    rights::grants(rights, places::right_needed(o))
+}
+
+fn leading_pages(s: &Registers, o: Operation, from: u32, count: u32) -> u32
+    requires { ⌜ from + count < 4294967296 ⌝ }
+    ensures { λ r. ⌜ (r ≡ leading (pageGrants (standsFor (now (s .entry)) .setup) o) from count) × (r ≤ count) ⌝ }
+{
+    let mut i: u32 = 0;
+    while i < count {
+        if !page_grants(s, o, from + i) {
+            return i;
+        }
+        i += 1;
+    }
+    i
+}
+
+fn allowed_words(s: &Registers, o: Operation) -> u32
+    requires { ⌜ spanWords o < 1048576 ⌝ }
+    ensures { λ r. ⌜ r ≡ allowedWords (standsFor (now (s .entry)) .setup) o ⌝ }
+{
+    let start = places::span_start(o);
+    let words = places::span_words(o);
+    let pages = (start.0 % 1024 + 4 * words + 1023) / 1024;
+    let first = geometry::page_of(start);
+    let lead = leading_pages(s, o, first.0, pages) * 256;
+    let skipped = geometry::word_in_page(start);
+    if lead <= skipped {
+        return 0;
+    }
+    let before = lead - skipped;
+    if before < words { before } else { words }
+}
+
+fn bank_closed(s: &Registers, bank: u32) -> bool
+    requires { ⌜ bank ≤ 1 ⌝ }
+    ensures { λ r. ⌜ r ≡ not (getD (settingsOf (now (s .entry)) .erase) bank false) ⌝ }
+{
+    !registers::permission(s, bank as usize)
+}
+
+fn denied(s: &Registers, o: Operation) -> bool
+    requires { ⌜ malformed o ≡ false ⌝ }
+    ensures { λ r. ⌜ r ≡ denied (standsFor (now (s .entry)) .setup) o ⌝ }
+{
+    if places::is_bank_erase(o) {
+        let address = o.address;
+        let d = registers::pages(s);
+        return bank_closed(s, geometry::bank_of(d, geometry::page_of(address)));
+    }
+    allowed_words(s, o) < places::span_words(o)
+}
+
+// Checks 5, 7, 8 and 9. Only an operation that passes check 5 has a span to look at.
+pub fn operation_answer(s: &Registers, o: Operation) -> Answer
+    ensures { λ r. ⌜ r ≡ operationAnswer (standsFor (now (s .entry)) .setup) o ⌝ }
+{
+    let d = registers::pages(s);
+    let form = checks::form_answer(o);
+    if !refusals::accepts(form) {
+        return form;
+    }
+    let range = refusals::check(checks::out_of_range(d, o), Answer::OutOfRange);
+    let window = refusals::check(checks::crosses_window(o), Answer::CrossesWindow);
+    let rights = refusals::check(denied(s, o), Answer::Denied);
+    refusals::or_else(range, refusals::or_else(window, rights))
+}
+
+// How many words of a read are readable, by the answer of its checks.
+pub fn readable_by(answer: Answer, o: Operation) -> u32
+    ensures { λ r. ⌜ r ≡ cond (isDenied answer) 0 (o .count) ⌝ }
+{
+    if refusals::is_denied(answer) {
+        0
+    } else {
+        o.count
+    }
+}

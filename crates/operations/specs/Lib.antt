@@ -1,0 +1,3 @@
+-- A start on registers.
+
+pub mod Starting

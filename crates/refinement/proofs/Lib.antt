@@ -1,0 +1,4 @@
+-- Proofs of specs/.
+
+pub mod KeepBytes
+pub mod RefinementProof

@@ -1,0 +1,3 @@
+-- The registers stand for what the model's calls leave.
+
+pub mod Refinement

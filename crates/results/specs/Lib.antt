@@ -1,3 +1,0 @@
--- What the calls over the flat state hand back.
-
-pub mod Results

@@ -1,7 +1,0 @@
--- `state::no_errors` meets its contract. Assumes nothing.
-use borrow.Author.Needs.{needs}
-use Rattle.state.proofs.no_errors.Statement.{statement}
-use Rattle.state.proofs.no_errors.Tie as tie
-
-pub no-errors-spec : {M : Type 1} → statement M
-no-errors-spec = tie.close (tie.spec (λ c. search needs))

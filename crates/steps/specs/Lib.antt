@@ -1,0 +1,3 @@
+-- A step on registers.
+
+pub mod Stepping

@@ -1,0 +1,3 @@
+-- Check 1 of the registers.
+
+pub mod Taken

@@ -1,0 +1,13 @@
+-- `validity::ready` meets its contract. Assumes nothing.
+use mathlib.Core.Path.{_≡_, refl}
+use Rattle.validity.proofs.Taken.{ready-same}
+use Rattle.validity.proofs.ready.Statement.{statement}
+use Rattle.validity.proofs.ready.Tie as tie
+
+pub ready-spec : {M : Type 1} → statement M
+ready-spec =
+    tie.close (tie.spec
+    (λ c κs. tt)
+    (λ c κs. tt)
+    (λ c κs. tt)
+    (λ c. rw (c .ready-answer .ensures, c .before .phase .ensures, c .before .before .valid .ensures) (ready-same _ _ (λ e. e))))

@@ -1,0 +1,9 @@
+-- `whole::told` meets its contract. Assumes nothing.
+use Rattle.whole.proofs.told.Statement.{statement}
+use Rattle.whole.proofs.told.Tie as tie
+
+pub told-spec : {M : Type 1} → statement M
+told-spec =
+    tie.close (tie.spec
+    (λ c κs. tt)
+    (λ c. rw (c .number .ensures)))

@@ -1,0 +1,3 @@
+-- What a whole operation may count on once its first checks have passed.
+
+pub mod Admitted

@@ -1,0 +1,145 @@
+//! How long the proved model, through its C interface, the second program and
+//! plain Rust take for the same work, in one process and by turns.
+//!
+//! `cargo run --release --offline --manifest-path reference/Cargo.toml --bin speed`
+
+mod programs;
+mod work;
+
+use programs::{Model, Plain, Second};
+use reference::interface::from_reference;
+use reference::model::{self, Controller, ALL_RIGHTS, BANKS};
+use std::time::{Duration, Instant};
+use work::{assert_all_done, lent, rows, timed, Left, Per, Work};
+
+/// A row's rounds: so many at least, and until so much time has passed.
+const ROUNDS: usize = 7;
+const TIME: Duration = Duration::from_millis(250);
+
+const PROGRAMS: usize = 3;
+const COLUMNS: [&str; 10] = [
+    "work",
+    "D",
+    "operations",
+    "rounds",
+    "per",
+    "model",
+    "second",
+    "plain",
+    "/ second",
+    "/ plain",
+];
+const NOTES: &str = "
+Nanoseconds per bus word or per call, the median of the rounds; / second and / plain
+  are the model's time divided by theirs.
+model: the proved model through its C interface, on a controller that is lent to it.
+second: the second program, compiled with cargo's release profile. It runs a whole
+  operation by its steps, as the rules tell it, and judges the state anew at each.
+plain: plain Rust with the same checks, made once in a call; a whole operation moves
+  its words page by page. Compiled like the second program.
+A round does the operation at every place of the data pages, one after the other
+  (a bank erase at both banks), on each program; they take turns to go first.
+Before each round, outside the timed part: flash of mixed words for reads, erased for
+  programs, programmed to zeros for erases; a controller that is ready, with all
+  rights by default and no region on; a buffer with a part for every operation,
+  cleared for reads, of mixed words for programs, empty for erases; and the whole
+  round once untimed, on copies.
+After each round, asserted: answers, bits, buffer, image and state are the same.";
+
+/// Ready, with every right given and no region on.
+fn ready(data_pages: u32, image: &[u32]) -> Controller {
+    let mut c = Controller::default();
+    model::reset(&mut c, data_pages);
+    model::set_default_rights(&mut c, ALL_RIGHTS);
+    for bank in 0..BANKS as u32 {
+        model::set_bank_erase_permission(&mut c, bank, true);
+    }
+    model::initialise(&mut c, image);
+    c
+}
+
+/// One round: all programs from the same start, and all they leave compared.
+fn round(work: &Work, number: usize) -> [Duration; PROGRAMS] {
+    let lent = lent(work);
+    let controller = ready(work.data_pages, &lent.image);
+    let run = |program| -> (Duration, Left) {
+        match program {
+            0 => timed(Model(from_reference(&controller)), work, &lent),
+            1 => timed(Second(controller.clone()), work, &lent),
+            _ => timed(Plain(controller.clone()), work, &lent),
+        }
+    };
+    let mut times = [Duration::ZERO; PROGRAMS];
+    let mut first: Option<Left> = None;
+    for turn in 0..PROGRAMS {
+        let program = (number + turn) % PROGRAMS;
+        let (time, left) = run(program);
+        times[program] = time;
+        assert_all_done(work, &left.told);
+        let same = first.as_ref().is_none_or(|first| *first == left);
+        assert!(same, "{}: they differ", work.name);
+        first.get_or_insert(left);
+    }
+    times
+}
+
+/// The times of all rounds.
+fn rounds(work: &Work) -> Vec<[Duration; PROGRAMS]> {
+    let begun = Instant::now();
+    let mut rounds = Vec::new();
+    while rounds.len() < ROUNDS || begun.elapsed() < TIME {
+        rounds.push(round(work, rounds.len()));
+    }
+    rounds
+}
+
+fn median(times: impl Iterator<Item = Duration>) -> Duration {
+    let mut times: Vec<_> = times.collect();
+    times.sort_unstable();
+    times[times.len() / 2]
+}
+
+fn main() {
+    print_row(COLUMNS);
+    for work in rows() {
+        let rounds = rounds(&work);
+        let operations = work.addresses().len();
+        let (per, units) = match work.per {
+            Per::Word => ("word", work.words() * operations as u64),
+            Per::Call => ("call", operations as u64),
+        };
+        let [model, second, plain] = std::array::from_fn(|program| {
+            let time = median(rounds.iter().map(|round| round[program]));
+            time.as_nanos() as f64 / units as f64
+        });
+        print_row([
+            work.name,
+            &work.data_pages.to_string(),
+            &operations.to_string(),
+            &rounds.len().to_string(),
+            per,
+            &format!("{model:.1}"),
+            &format!("{second:.1}"),
+            &format!("{plain:.1}"),
+            &three_digits(model / second),
+            &three_digits(model / plain),
+        ]);
+    }
+    println!("{NOTES}");
+}
+
+fn print_row(columns: [&str; 10]) {
+    let [name, data_pages, operations, rounds, per, model, second, plain, to_second, to_plain] =
+        columns;
+    println!(
+        "{name:<38} {data_pages:>4} {operations:>10} {rounds:>6} {per:>4} \
+         {model:>8} {second:>9} {plain:>8} {to_second:>8} {to_plain:>7}"
+    );
+}
+
+/// A ratio with three significant digits.
+fn three_digits(ratio: f64) -> String {
+    let before_the_point = ratio.log10().floor() as i32 + 1;
+    let decimals = (3 - before_the_point).max(0) as usize;
+    format!("{ratio:.decimals$}")
+}

@@ -1,0 +1,276 @@
+//! The work of a row, and how a program does it.
+
+use crate::programs::Program;
+use reference::interface::flat;
+use reference::model::{
+    self, Operation, BANKS, BANK_ERASE, DATA, INFORMATION, ONES, PAGE_BYTES, PAGE_ERASE, PROGRAM,
+    READ, WORD_BYTES,
+};
+use std::time::{Duration, Instant};
+
+#[derive(Clone, Copy)]
+pub enum By {
+    /// Start, then for every word a step, with its push or pop.
+    Parts,
+    Whole,
+    /// One word, without an operation.
+    HostRead,
+}
+
+/// What a row's time is divided by.
+#[derive(Clone, Copy, PartialEq, Eq)]
+pub enum Per {
+    Word,
+    Call,
+}
+
+/// A row of the table: one operation, done at every place of the data pages in turn.
+pub struct Work {
+    pub name: &'static str,
+    pub by: By,
+    pub per: Per,
+    pub data_pages: u32,
+    pub operation: Operation,
+}
+
+impl Work {
+    /// Bus words that one operation moves.
+    pub fn words(&self) -> u64 {
+        model::words_to_move(self.data_pages, &self.operation)
+    }
+
+    /// The byte addresses at which the operation is done, one after the other.
+    pub fn addresses(&self) -> Vec<u32> {
+        let bank_bytes = u64::from(self.data_pages) * PAGE_BYTES;
+        let stride = match self.operation.kind {
+            BANK_ERASE => bank_bytes,
+            _ => self.words() * WORD_BYTES,
+        };
+        let places = BANKS * bank_bytes / stride;
+        (0..places).map(|i| (i * stride) as u32).collect()
+    }
+}
+
+type Line = (&'static str, By, u8, u8, u32);
+
+/// Parts and whole operations by the word.
+const BY_WORD: [Line; 8] = [
+    (
+        "read of 1,024 words: start, step, pop",
+        By::Parts,
+        READ,
+        DATA,
+        1_024,
+    ),
+    (
+        "program of 16 words: start, push, step",
+        By::Parts,
+        PROGRAM,
+        DATA,
+        16,
+    ),
+    ("page erase: start, step", By::Parts, PAGE_ERASE, DATA, 0),
+    ("whole read of 1,024 words", By::Whole, READ, DATA, 1_024),
+    ("whole program of 16 words", By::Whole, PROGRAM, DATA, 16),
+    ("whole page erase", By::Whole, PAGE_ERASE, DATA, 0),
+    ("whole bank erase, data", By::Whole, BANK_ERASE, DATA, 0),
+    (
+        "whole bank erase with information",
+        By::Whole,
+        BANK_ERASE,
+        INFORMATION,
+        0,
+    ),
+];
+
+/// The calls of one word; a start is a 4,096th, a 1,024th or a 16th of them.
+const WORD_CALLS: [Line; 3] = [
+    ("erase step", By::Parts, BANK_ERASE, DATA, 0),
+    ("step + pop", By::Parts, READ, DATA, 1_024),
+    ("push + step, 1/16 of a start", By::Parts, PROGRAM, DATA, 16),
+];
+
+const CALLS: [Line; 7] = [
+    ("host read", By::HostRead, READ, DATA, 1),
+    ("whole read of 1 word", By::Whole, READ, DATA, 1),
+    ("whole read of 16 words", By::Whole, READ, DATA, 16),
+    ("whole read of 1,024 words", By::Whole, READ, DATA, 1_024),
+    ("whole program of 1 word", By::Whole, PROGRAM, DATA, 1),
+    ("whole program of 16 words", By::Whole, PROGRAM, DATA, 16),
+    ("whole page erase", By::Whole, PAGE_ERASE, DATA, 0),
+];
+
+pub fn rows() -> Vec<Work> {
+    let tables = [
+        (Per::Word, 16, &BY_WORD[..]),
+        (Per::Word, 256, &BY_WORD[..]),
+        (Per::Word, 16, &WORD_CALLS[..]),
+        (Per::Call, 16, &CALLS[..]),
+    ];
+    let row = |per, data_pages, (name, by, kind, partition, count): Line| Work {
+        name,
+        by,
+        per,
+        data_pages,
+        operation: Operation {
+            kind,
+            partition,
+            count,
+            ..Operation::default()
+        },
+    };
+    tables
+        .iter()
+        .flat_map(|&(per, d, table)| table.iter().map(move |&line| row(per, d, line)))
+        .collect()
+}
+
+// -- lent memory --------------------------------------------------------------------
+
+/// Every operation has its own part of the buffer.
+#[derive(Clone, PartialEq)]
+pub struct Lent {
+    pub image: Vec<u32>,
+    buffer: Vec<u32>,
+}
+
+/// The word at a place.
+type Fill = fn(u32) -> u32;
+
+/// As the notes say it stands before a round.
+pub fn lent(work: &Work) -> Lent {
+    let (flash, buffered): (Fill, Fill) = match work.operation.kind {
+        READ => (mixed, |_| 0),
+        PROGRAM => (|_| ONES, mixed),
+        _ => (|_| 0, mixed),
+    };
+    let image_words = model::image_words(work.data_pages) as u32;
+    let buffer_words = work.operation.count * work.addresses().len() as u32;
+    Lent {
+        image: (0..image_words).map(flash).collect(),
+        buffer: (0..buffer_words).map(buffered).collect(),
+    }
+}
+
+/// A word of ones and zeros, another at each place.
+fn mixed(place: u32) -> u32 {
+    (place + 1).wrapping_mul(0x9E37_79B9)
+}
+
+// -- doing the work -----------------------------------------------------------------
+
+/// What an operation told: refusals are 0 if none was.
+#[derive(Clone, Copy, Default, PartialEq, Eq, Debug)]
+pub struct Told {
+    refusals: u32,
+    bits: u32,
+    /// The step that told it finished; 0 of a whole operation.
+    finished_at: u64,
+}
+
+fn in_parts(
+    program: &mut impl Program,
+    operation: Operation,
+    words: u64,
+    image: &mut [u32],
+    buffer: &mut [u32],
+) -> Told {
+    let mut told = Told {
+        refusals: program.start(operation),
+        ..Told::default()
+    };
+    for moved in 1..=words {
+        let place = moved as usize - 1;
+        if operation.kind == PROGRAM {
+            told.refusals |= program.push(buffer[place]);
+        }
+        let (answer, finished, bits) = program.step(image);
+        told.refusals |= answer;
+        told.bits += bits;
+        if finished {
+            told.finished_at = moved;
+        }
+        if operation.kind == READ {
+            let (answer, word) = program.pop();
+            told.refusals |= answer;
+            buffer[place] = word;
+        }
+    }
+    told
+}
+
+fn whole(
+    program: &mut impl Program,
+    operation: Operation,
+    image: &mut [u32],
+    buffer: &mut [u32],
+) -> Told {
+    let (refusals, bits) = program.whole(operation, image, buffer);
+    Told {
+        refusals,
+        bits,
+        finished_at: 0,
+    }
+}
+
+fn host_read(program: &impl Program, address: u32, image: &[u32], buffer: &mut [u32]) -> Told {
+    let (refusals, word) = program.host_read(image, address);
+    buffer[0] = word;
+    Told {
+        refusals,
+        ..Told::default()
+    }
+}
+
+/// All that a program told and left behind.
+#[derive(PartialEq)]
+pub struct Left {
+    pub told: Vec<Told>,
+    lent: Lent,
+    state: flat::Controller,
+}
+
+/// The time of the operations alone; what they need is made ready before, and
+/// they are done once untimed, so that every program's code is warm.
+pub fn timed(program: impl Program, work: &Work, lent: &Lent) -> (Duration, Left) {
+    done(program.clone(), work, lent.clone());
+    done(program, work, lent.clone())
+}
+
+fn done(mut program: impl Program, work: &Work, mut lent: Lent) -> (Duration, Left) {
+    let words = work.words();
+    let addresses = work.addresses();
+    let mut told = Vec::with_capacity(addresses.len());
+    let image = &mut lent.image[..];
+    let mut unused = &mut lent.buffer[..];
+    let begun = Instant::now();
+    for address in addresses {
+        let operation = Operation {
+            address,
+            ..work.operation
+        };
+        let (buffer, rest) = unused.split_at_mut(operation.count as usize);
+        unused = rest;
+        told.push(match work.by {
+            By::Parts => in_parts(&mut program, operation, words, image, buffer),
+            By::Whole => whole(&mut program, operation, image, buffer),
+            By::HostRead => host_read(&program, address, image, buffer),
+        });
+    }
+    let time = begun.elapsed();
+    let state = program.state();
+    (time, Left { told, lent, state })
+}
+
+/// Nothing was refused, parts finished with the last word, and an erase of zeros changed every bit.
+pub fn assert_all_done(work: &Work, told: &[Told]) {
+    let finished_at = match work.by {
+        By::Parts => work.words(),
+        By::Whole | By::HostRead => 0,
+    };
+    let erases = matches!(work.operation.kind, PAGE_ERASE | BANK_ERASE);
+    for told in told {
+        assert_eq!((told.refusals, told.finished_at), (0, finished_at));
+        assert!(!erases || u64::from(told.bits) == 32 * work.words());
+    }
+}
