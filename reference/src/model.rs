@@ -4,7 +4,7 @@
 //! refusal number of 01 (0 for none) with whatever else the call hands out.
 
 // ---------------------------------------------------------------------------
-// The shelf: pages and words
+// Pages and words
 // ---------------------------------------------------------------------------
 
 pub const BANKS: u64 = 2;
@@ -41,22 +41,22 @@ pub const RIGHT_ERASE: u8 = 4;
 pub const ALL_RIGHTS: u8 = 7;
 
 // ---------------------------------------------------------------------------
-// When the desk says no: the refusal numbers
+// The refusal numbers
 // ---------------------------------------------------------------------------
 
 pub const NONE: u8 = 0;
-pub const NOT_OURS: u8 = 1;
-pub const SHUT: u8 = 2;
-pub const STILL_FRESH: u8 = 3;
-pub const IN_PROGRESS: u8 = 4;
+pub const INVALID: u8 = 1;
+pub const DISABLED: u8 = 2;
+pub const UNINITIALISED: u8 = 3;
+pub const BUSY: u8 = 4;
 pub const MALFORMED: u8 = 5;
 pub const SHORT_BUFFER: u8 = 6;
-pub const OUTSIDE: u8 = 7;
-pub const WINDOW: u8 = 8;
+pub const OUT_OF_RANGE: u8 = 7;
+pub const CROSSES_WINDOW: u8 = 8;
 pub const DENIED: u8 = 9;
 pub const QUEUE_EMPTY: u8 = 10;
 pub const QUEUE_FULL: u8 = 11;
-pub const OUT_OF_TURN: u8 = 12;
+pub const UNEXPECTED: u8 = 12;
 pub const BAD_SETTING: u8 = 13;
 
 // ---------------------------------------------------------------------------
@@ -66,9 +66,9 @@ pub const BAD_SETTING: u8 = 13;
 #[derive(Clone, Copy, Debug, Default, PartialEq, Eq)]
 pub enum Phase {
     #[default]
-    Fresh,
+    Uninitialised,
     Ready,
-    Shut,
+    Disabled,
 }
 
 #[derive(Clone, Copy, Debug, Default, PartialEq, Eq)]
@@ -204,7 +204,7 @@ pub struct View {
 /// Takes any state and checks only the new D.
 pub fn reset(controller: &mut Controller, data_pages: u32) -> u8 {
     if !d_in_range(data_pages) {
-        return NOT_OURS;
+        return INVALID;
     }
     *controller = Controller {
         data_pages,
@@ -291,7 +291,7 @@ pub fn initialise(c: &mut Controller, image: &[u32]) -> Initialised {
 
 /// Checks 1 only, so it is allowed in any phase and during an operation.
 pub fn clear(c: &mut Controller) -> u8 {
-    if let Err(refusal) = check_ours(c) {
+    if let Err(refusal) = check_valid(c) {
         return refusal;
     }
     c.recorded = 0;
@@ -314,7 +314,7 @@ pub fn rma(c: &mut Controller, image: &mut [u32]) -> u8 {
     }
     c.read_queue = Queue::default();
     c.program_queue = Queue::default();
-    c.phase = Phase::Shut;
+    c.phase = Phase::Disabled;
     NONE
 }
 
@@ -344,7 +344,7 @@ pub fn step(c: &mut Controller, image: &mut [u32]) -> Stepped {
         return step_refused(refusal);
     }
     match c.in_progress {
-        InProgress::Nothing => step_refused(OUT_OF_TURN),
+        InProgress::Nothing => step_refused(UNEXPECTED),
         InProgress::Read {
             operation,
             moved,
@@ -438,54 +438,54 @@ fn refuse_if(wrong: bool, refusal: u8) -> Check {
     }
 }
 
-fn check_ours(c: &Controller) -> Check {
-    refuse_if(!is_ours(c), NOT_OURS)
+fn check_valid(c: &Controller) -> Check {
+    refuse_if(!is_valid(c), INVALID)
 }
 
 fn check_image(c: &Controller, image: &[u32]) -> Check {
-    refuse_if(image.len() as u64 != image_words(c.data_pages), NOT_OURS)
+    refuse_if(image.len() as u64 != image_words(c.data_pages), INVALID)
 }
 
 fn check_phase_is_ready(c: &Controller) -> Check {
-    refuse_if(c.phase == Phase::Shut, SHUT)?;
-    refuse_if(c.phase == Phase::Fresh, STILL_FRESH)
+    refuse_if(c.phase == Phase::Disabled, DISABLED)?;
+    refuse_if(c.phase == Phase::Uninitialised, UNINITIALISED)
 }
 
 fn check_nothing_in_progress(c: &Controller) -> Check {
-    refuse_if(c.in_progress != InProgress::Nothing, IN_PROGRESS)
+    refuse_if(c.in_progress != InProgress::Nothing, BUSY)
 }
 
 /// 1, 2, 3 of a call that is lent an image.
 fn check_ready(c: &Controller, image: &[u32]) -> Check {
-    check_ours(c)?;
+    check_valid(c)?;
     check_image(c, image)?;
     check_phase_is_ready(c)
 }
 
 /// Settings and inputs: 1, 4, 13.
 fn check_setting(c: &Controller, passes: bool) -> Check {
-    check_ours(c)?;
+    check_valid(c)?;
     check_nothing_in_progress(c)?;
     refuse_if(!passes, BAD_SETTING)
 }
 
 fn check_initialise(c: &Controller, image: &[u32]) -> Check {
-    check_ours(c)?;
+    check_valid(c)?;
     check_image(c, image)?;
-    refuse_if(c.phase == Phase::Shut, SHUT)?;
-    refuse_if(c.phase == Phase::Ready, OUT_OF_TURN)
+    refuse_if(c.phase == Phase::Disabled, DISABLED)?;
+    refuse_if(c.phase == Phase::Ready, UNEXPECTED)
 }
 
 fn check_rma(c: &Controller, image: &[u32]) -> Check {
-    check_ours(c)?;
+    check_valid(c)?;
     check_image(c, image)?;
-    refuse_if(c.phase == Phase::Shut, SHUT)?;
+    refuse_if(c.phase == Phase::Disabled, DISABLED)?;
     check_nothing_in_progress(c)
 }
 
 /// 1 to 4 of start; what follows is `judge`.
 fn check_start(c: &Controller) -> Check {
-    check_ours(c)?;
+    check_valid(c)?;
     check_phase_is_ready(c)?;
     check_nothing_in_progress(c)
 }
@@ -496,31 +496,34 @@ fn check_whole(c: &Controller, operation: &Operation, image: &[u32], buffer: &[u
     check_ready(c, image)?;
     check_nothing_in_progress(c)?;
     let word_queued = c.read_queue.length > 0 || c.program_queue.length > 0;
-    refuse_if(word_queued, IN_PROGRESS)?;
+    refuse_if(word_queued, BUSY)?;
     let too_short = uses_count(operation) && (buffer.len() as u64) < u64::from(operation.count);
     refuse_if(well_formed(operation) && too_short, SHORT_BUFFER)
 }
 
 fn check_push(c: &Controller) -> Check {
-    check_ours(c)?;
+    check_valid(c)?;
     check_phase_is_ready(c)?;
     let InProgress::Program { operation, moved } = c.in_progress else {
-        return Err(OUT_OF_TURN);
+        return Err(UNEXPECTED);
     };
     let pushed = words_pushed(moved, &c.program_queue);
-    refuse_if(pushed == u64::from(operation.count), OUT_OF_TURN)?;
+    refuse_if(pushed == u64::from(operation.count), UNEXPECTED)?;
     refuse_if(c.program_queue.length == QUEUE_WORDS, QUEUE_FULL)
 }
 
 fn check_pop(c: &Controller) -> Check {
-    check_ours(c)?;
+    check_valid(c)?;
     refuse_if(c.read_queue.length == 0, QUEUE_EMPTY)
 }
 
 fn check_host_read(c: &Controller, image: &[u32], address: u32) -> Check {
     check_ready(c, image)?;
     refuse_if(!address.is_multiple_of(4), MALFORMED)?;
-    refuse_if(u64::from(address) >= address_end(c.data_pages), OUTSIDE)?;
+    refuse_if(
+        u64::from(address) >= address_end(c.data_pages),
+        OUT_OF_RANGE,
+    )?;
     let page = u64::from(address) / PAGE_BYTES;
     refuse_if(data_rights(c, page) & RIGHT_READ == 0, DENIED)
 }
@@ -528,20 +531,20 @@ fn check_host_read(c: &Controller, image: &[u32], address: u32) -> Check {
 fn check_view(c: &Controller, image: &[u32], page: u32) -> Check {
     check_ready(c, image)?;
     let page = u64::from(page);
-    refuse_if(page >= BANKS * u64::from(c.data_pages), OUTSIDE)?;
+    refuse_if(page >= BANKS * u64::from(c.data_pages), OUT_OF_RANGE)?;
     refuse_if(data_rights(c, page) & RIGHT_READ == 0, DENIED)
 }
 
 // ---------------------------------------------------------------------------
-// A state is ours
+// Validity of a state (01: "a state is ours")
 // ---------------------------------------------------------------------------
 
-pub fn is_ours(c: &Controller) -> bool {
+pub fn is_valid(c: &Controller) -> bool {
     d_in_range(c.data_pages)
         && settings_pass(c)
-        && records_are_ours(c)
-        && queues_are_ours(c)
-        && in_progress_is_ours(c)
+        && record_is_valid(c)
+        && queues_are_valid(c)
+        && in_progress_is_valid(c)
 }
 
 fn d_in_range(data_pages: u32) -> bool {
@@ -560,18 +563,18 @@ fn region_passes(data_pages: u32, region: &Region) -> bool {
     region.rights <= ALL_RIGHTS && end <= BANKS * u64::from(data_pages)
 }
 
-fn records_are_ours(c: &Controller) -> bool {
-    let known = bit(MALFORMED) | bit(OUTSIDE) | bit(WINDOW) | bit(DENIED);
+fn record_is_valid(c: &Controller) -> bool {
+    let known = bit(MALFORMED) | bit(OUT_OF_RANGE) | bit(CROSSES_WINDOW) | bit(DENIED);
     c.recorded & !known == 0 && (c.recorded != 0 || c.last_address == 0)
 }
 
-fn queues_are_ours(c: &Controller) -> bool {
+fn queues_are_valid(c: &Controller) -> bool {
     [c.read_queue, c.program_queue]
         .iter()
         .all(|q| q.length <= QUEUE_WORDS && (q.length == 0 || c.phase == Phase::Ready))
 }
 
-fn in_progress_is_ours(c: &Controller) -> bool {
+fn in_progress_is_valid(c: &Controller) -> bool {
     match c.in_progress {
         InProgress::Nothing => c.program_queue.length == 0,
         InProgress::Read {
@@ -581,7 +584,7 @@ fn in_progress_is_ours(c: &Controller) -> bool {
         } => {
             operation.kind == READ
                 && under_way(c, &operation, moved)
-                && readable_is_ours(c, &operation, readable)
+                && readable_is_valid(c, &operation, readable)
                 && c.program_queue.length == 0
         }
         InProgress::Program { operation, moved } => {
@@ -605,7 +608,7 @@ fn under_way(c: &Controller, operation: &Operation, moved: u32) -> bool {
 }
 
 /// A denied read is there as blank, and no other read is.
-fn readable_is_ours(c: &Controller, operation: &Operation, readable: u32) -> bool {
+fn readable_is_valid(c: &Controller, operation: &Operation, readable: u32) -> bool {
     match judge(c, operation) {
         NONE => readable == operation.count,
         DENIED => readable == 0,
@@ -621,9 +624,9 @@ fn judge(c: &Controller, operation: &Operation) -> u8 {
     if !well_formed(operation) {
         MALFORMED
     } else if !inside(c.data_pages, operation) {
-        OUTSIDE
+        OUT_OF_RANGE
     } else if operation.kind == PROGRAM && !in_one_window(operation) {
-        WINDOW
+        CROSSES_WINDOW
     } else if !allowed(c, operation) {
         DENIED
     } else {

@@ -7,10 +7,10 @@
 
 use crate::model::{
     Controller, InProgress, Operation, Phase, Progress, Queue, Region, Stepped, WholeDone,
-    WordGiven, ALL_RIGHTS, BANK_ERASE, CREATOR_PAGE, DATA, DENIED, INFORMATION, IN_PROGRESS,
-    MALFORMED, MAX_COUNT, NONE, NOT_OURS, ONES, OUTSIDE, OUT_OF_TURN, OWNER_PAGE, PAGE_ERASE,
+    WordGiven, ALL_RIGHTS, BANK_ERASE, BUSY, CREATOR_PAGE, CROSSES_WINDOW, DATA, DENIED, DISABLED,
+    INFORMATION, INVALID, MALFORMED, MAX_COUNT, NONE, ONES, OUT_OF_RANGE, OWNER_PAGE, PAGE_ERASE,
     PROGRAM, QUEUE_EMPTY, QUEUE_FULL, QUEUE_WORDS, READ, RIGHT_ERASE, RIGHT_PROGRAM, RIGHT_READ,
-    SHORT_BUFFER, SHUT, STILL_FRESH, WINDOW,
+    SHORT_BUFFER, UNEXPECTED, UNINITIALISED,
 };
 use std::ops::Range;
 
@@ -21,19 +21,19 @@ const WINDOW_BYTES: u32 = 64;
 const INFO_PAGES: u32 = 13;
 /// Where each type begins among its bank's information pages, and how many it has.
 const INFO_TYPES: [(u32, u32); 3] = [(0, 10), (10, 1), (11, 2)];
-const RECORDED_KINDS: u32 = 1 << MALFORMED | 1 << OUTSIDE | 1 << WINDOW | 1 << DENIED;
+const RECORDED_KINDS: u32 = 1 << MALFORMED | 1 << OUT_OF_RANGE | 1 << CROSSES_WINDOW | 1 << DENIED;
 
 // -- the calls -----------------------------------------------------------------
 
 pub fn start(c: &mut Controller, operation: Operation) -> u8 {
     if !valid(c) {
-        return NOT_OURS;
+        return INVALID;
     }
     if let Some(refusal) = not_ready(c) {
         return refusal;
     }
     if c.in_progress != InProgress::Nothing {
-        return IN_PROGRESS;
+        return BUSY;
     }
     let verdict = judge(c, &operation);
     record(c, verdict, operation.address);
@@ -66,7 +66,7 @@ pub fn step(c: &mut Controller, image: &mut [u32]) -> Stepped {
         ..Stepped::default()
     };
     if !valid(c) || image.len() != image_words(c.data_pages) {
-        return refused(NOT_OURS);
+        return refused(INVALID);
     }
     if let Some(refusal) = not_ready(c) {
         return refused(refusal);
@@ -77,7 +77,7 @@ pub fn step(c: &mut Controller, image: &mut [u32]) -> Stepped {
         ..Stepped::default()
     };
     let (finished, bits) = match &mut c.in_progress {
-        InProgress::Nothing => return refused(OUT_OF_TURN),
+        InProgress::Nothing => return refused(UNEXPECTED),
         InProgress::Read {
             operation,
             moved,
@@ -127,16 +127,16 @@ pub fn step(c: &mut Controller, image: &mut [u32]) -> Stepped {
 
 pub fn push(c: &mut Controller, word: u32) -> u8 {
     if !valid(c) {
-        return NOT_OURS;
+        return INVALID;
     }
     if let Some(refusal) = not_ready(c) {
         return refusal;
     }
     let InProgress::Program { operation, moved } = &c.in_progress else {
-        return OUT_OF_TURN;
+        return UNEXPECTED;
     };
     if moved + c.program_queue.length == operation.count {
-        return OUT_OF_TURN;
+        return UNEXPECTED;
     }
     if c.program_queue.length == QUEUE_WORDS {
         return QUEUE_FULL;
@@ -148,7 +148,7 @@ pub fn push(c: &mut Controller, word: u32) -> u8 {
 pub fn pop(c: &mut Controller) -> WordGiven {
     let refused = |refusal| WordGiven { refusal, word: 0 };
     if !valid(c) {
-        return refused(NOT_OURS);
+        return refused(INVALID);
     }
     if c.read_queue.length == 0 {
         return refused(QUEUE_EMPTY);
@@ -167,14 +167,14 @@ pub fn whole(
 ) -> WholeDone {
     let done = |refusal, bits| WholeDone { refusal, bits };
     if !valid(c) || image.len() != image_words(c.data_pages) {
-        return done(NOT_OURS, 0);
+        return done(INVALID, 0);
     }
     if let Some(refusal) = not_ready(c) {
         return done(refusal, 0);
     }
     let queued = c.read_queue.length + c.program_queue.length;
     if c.in_progress != InProgress::Nothing || queued > 0 {
-        return done(IN_PROGRESS, 0);
+        return done(BUSY, 0);
     }
     let verdict = judge(c, &operation);
     let count = operation.count as usize;
@@ -206,7 +206,7 @@ pub fn whole(
 pub fn host_read(c: &Controller, image: &[u32], address: u32) -> WordGiven {
     let refused = |refusal| WordGiven { refusal, word: 0 };
     if !valid(c) || image.len() != image_words(c.data_pages) {
-        return refused(NOT_OURS);
+        return refused(INVALID);
     }
     if let Some(refusal) = not_ready(c) {
         return refused(refusal);
@@ -215,7 +215,7 @@ pub fn host_read(c: &Controller, image: &[u32], address: u32) -> WordGiven {
         return refused(MALFORMED);
     }
     if address >= 2 * c.data_pages * PAGE_BYTES {
-        return refused(OUTSIDE);
+        return refused(OUT_OF_RANGE);
     }
     if data_rights(c, address / PAGE_BYTES) & RIGHT_READ == 0 {
         return refused(DENIED);
@@ -348,8 +348,8 @@ fn record(c: &mut Controller, verdict: u8, address: u32) {
 
 fn not_ready(c: &Controller) -> Option<u8> {
     match c.phase {
-        Phase::Shut => Some(SHUT),
-        Phase::Fresh => Some(STILL_FRESH),
+        Phase::Disabled => Some(DISABLED),
+        Phase::Uninitialised => Some(UNINITIALISED),
         Phase::Ready => None,
     }
 }
@@ -413,7 +413,7 @@ fn judge(c: &Controller, operation: &Operation) -> u8 {
     }
     let d = c.data_pages;
     if operation.address >= 2 * d * PAGE_BYTES {
-        return OUTSIDE;
+        return OUT_OF_RANGE;
     }
     let first = operation.address / PAGE_BYTES;
     if operation.kind == BANK_ERASE {
@@ -431,10 +431,10 @@ fn judge(c: &Controller, operation: &Operation) -> u8 {
         _ => first % d + (last - first) < INFO_TYPES[usize::from(operation.info_type)].1,
     };
     if !fits {
-        return OUTSIDE;
+        return OUT_OF_RANGE;
     }
     if operation.kind == PROGRAM && operation.address / WINDOW_BYTES != last_byte / WINDOW_BYTES {
-        return WINDOW;
+        return CROSSES_WINDOW;
     }
     let right = match operation.kind {
         READ => RIGHT_READ,
@@ -475,9 +475,9 @@ fn info_rights(c: &Controller, info_type: u8, page: u32) -> u8 {
     let index = bank * INFO_PAGES + INFO_TYPES[usize::from(info_type)].0 + page;
     let setting = c.info_settings[index as usize];
     let seed_page = |number| bank == 0 && info_type == 0 && u64::from(page) == number;
-    let shut = seed_page(CREATOR_PAGE) && (!c.provision_enabled || c.seeds_locked)
+    let denied = seed_page(CREATOR_PAGE) && (!c.provision_enabled || c.seeds_locked)
         || seed_page(OWNER_PAGE) && !c.provision_enabled;
-    if setting.on && !shut {
+    if setting.on && !denied {
         setting.rights
     } else {
         0

@@ -8,8 +8,10 @@ use crate::model::{
 };
 
 /// The kinds that a record holds: 5, 7, 8 and 9.
-const RECORDED_KINDS: u32 =
-    1 << model::MALFORMED | 1 << model::OUTSIDE | 1 << model::WINDOW | 1 << model::DENIED;
+const RECORDED_KINDS: u32 = 1 << model::MALFORMED
+    | 1 << model::OUT_OF_RANGE
+    | 1 << model::CROSSES_WINDOW
+    | 1 << model::DENIED;
 
 // -- the state -----------------------------------------------------------------
 
@@ -59,9 +61,9 @@ fn flag(number: u32) -> Option<bool> {
 
 fn phase(number: u32) -> Option<Phase> {
     match number {
-        flat::PHASE_UNINITIALISED => Some(Phase::Fresh),
+        flat::PHASE_UNINITIALISED => Some(Phase::Uninitialised),
         flat::PHASE_READY => Some(Phase::Ready),
-        flat::PHASE_DISABLED => Some(Phase::Shut),
+        flat::PHASE_DISABLED => Some(Phase::Disabled),
         _ => None,
     }
 }
@@ -127,9 +129,9 @@ pub fn from_reference(c: &Controller) -> flat::Controller {
     flat::Controller {
         data_pages: c.data_pages,
         phase: match c.phase {
-            Phase::Fresh => flat::PHASE_UNINITIALISED,
+            Phase::Uninitialised => flat::PHASE_UNINITIALISED,
             Phase::Ready => flat::PHASE_READY,
-            Phase::Shut => flat::PHASE_DISABLED,
+            Phase::Disabled => flat::PHASE_DISABLED,
         },
         provision_enabled: u32::from(c.provision_enabled),
         seeds_locked: u32::from(c.seeds_locked),

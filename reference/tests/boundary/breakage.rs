@@ -5,23 +5,23 @@ use reference::interface::flat::{Controller, PROGRAM, READ};
 use reference::interface::{calls, fields};
 
 fn programming() -> Controller {
-    with_progress(open(), info(PROGRAM, 2, 0x0440, 16), 3)
+    with_progress(ready(), info(PROGRAM, 2, 0x0440, 16), 3)
 }
 
 fn reading() -> Controller {
-    with_progress(open(), data(READ, 0x0440, 16), 3)
+    with_progress(ready(), data(READ, 0x0440, 16), 3)
 }
 
-/// A state that is ours and a value of the field that breaks it; none for a queue's words.
+/// A valid state and a value of the field that breaks it; none for a queue's words.
 fn breaking(field: &str) -> Option<(Controller, u32)> {
     let last = field.rsplit('.').next().unwrap_or(field);
     let last = last.split('[').next().unwrap_or(last);
     let case = match last {
-        "data_pages" => (open(), 9),
-        "phase" => (open(), 3),
-        "provision_enabled" | "seeds_locked" | "on" | "bank_erase" => (open(), 2),
-        "default_rights" | "rights" => (open(), 8),
-        "first_page" | "page_count" => (open(), 2 * D + 1),
+        "data_pages" => (ready(), 9),
+        "phase" => (ready(), 3),
+        "provision_enabled" | "seeds_locked" | "on" | "bank_erase" => (ready(), 2),
+        "default_rights" | "rights" => (ready(), 8),
+        "first_page" | "page_count" => (ready(), 2 * D + 1),
         "address" => (programming(), 0x0441),
         "count" => (programming(), 17),
         "kind" => (programming(), 4),
@@ -31,8 +31,8 @@ fn breaking(field: &str) -> Option<(Controller, u32)> {
         "readable" => (reading(), 15),
         "running" => (programming(), 2),
         "length" => (programming(), 17),
-        "recorded" => (open(), 1 << 6),
-        "last_address" => (open(), 4),
+        "recorded" => (ready(), 1 << 6),
+        "last_address" => (ready(), 4),
         "words" => return None,
         _ => panic!("no breakage for {field}"),
     };
@@ -47,11 +47,11 @@ fn cleared(mut c: Controller) -> u32 {
 #[test]
 fn each_field_alone_can_break_the_state() {
     for field in fields::all() {
-        let Some((ours, value)) = breaking(&field.name) else {
+        let Some((valid, value)) = breaking(&field.name) else {
             continue;
         };
-        let broken = with(&ours, &field.name, value);
-        assert_eq!(cleared(ours), 0, "{}", field.name);
+        let broken = with(&valid, &field.name, value);
+        assert_eq!(cleared(valid), 0, "{}", field.name);
         let (answer, after) = left(broken, calls::clear_errors);
         assert_eq!(answer, 1, "{}", field.name);
         assert_changed(&after, &broken, &[]);
@@ -62,7 +62,7 @@ fn each_field_alone_can_break_the_state() {
 #[test]
 fn each_bit_of_the_record_is_a_kind_or_breaks_the_state() {
     for bit in 0..32 {
-        let answer = cleared(with(&open(), "recorded", 1 << bit));
+        let answer = cleared(with(&ready(), "recorded", 1 << bit));
         let is_kind = [5, 7, 8, 9].contains(&bit);
         assert_eq!(answer == 0, is_kind, "bit {bit}");
     }
@@ -86,7 +86,7 @@ fn values() -> impl Iterator<Item = u32> {
 fn every_other_number_in_a_flag_breaks_the_state() {
     for field in fields::all().iter().filter(|field| is_flag(&field.name)) {
         for value in values() {
-            let answer = cleared(with(&open(), &field.name, value));
+            let answer = cleared(with(&ready(), &field.name, value));
             assert_eq!(answer == 0, value <= 1, "{} = {value}", field.name);
         }
     }
@@ -99,7 +99,7 @@ fn every_other_number_in_rights_breaks_the_state() {
             continue;
         }
         for value in values() {
-            let answer = cleared(with(&open(), &field.name, value));
+            let answer = cleared(with(&ready(), &field.name, value));
             assert_eq!(answer == 0, value <= 7, "{} = {value}", field.name);
         }
     }
@@ -109,7 +109,7 @@ fn every_other_number_in_rights_breaks_the_state() {
 fn every_other_number_in_phase_and_progress_breaks_the_state() {
     for value in values() {
         let answer = |field| cleared(with(&programming(), field, value));
-        let phase = cleared(with(&open(), "phase", value));
+        let phase = cleared(with(&ready(), "phase", value));
         assert_eq!(phase == 0, value <= 2, "phase {value}");
         let running = answer("progress.running");
         assert_eq!(running == 0, value <= 1, "running {value}");

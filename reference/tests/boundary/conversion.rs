@@ -6,7 +6,7 @@ use reference::interface::{asked_operation, fields, from_reference, to_reference
 
 #[test]
 fn a_state_goes_there_and_back() {
-    for base in [fresh(), closed(), open()] {
+    for base in [uninitialised(), ready_without_rights(), ready()] {
         for (place, field) in fields::all().iter().enumerate() {
             let mut c = with_progress(base, info(READ, 2, 0x4444, 8), 3);
             field.set(&mut c, 100 + place as u32);
@@ -41,7 +41,7 @@ const BYTES: [&str; 3] = [
 
 #[test]
 fn what_encodes_nothing_gives_none() {
-    let running = with_progress(open(), data(PROGRAM, 0, 1), 0);
+    let running = with_progress(ready(), data(PROGRAM, 0, 1), 0);
     for field in fields::all() {
         let name = field.name.as_str();
         let flag_or_kind = name.ends_with(".on")
@@ -73,7 +73,7 @@ fn what_is_asked_counts_as_255_at_most() {
 /// While nothing is running, no rule looks at the kind.
 #[test]
 fn the_kind_of_nothing_in_progress_is_free() {
-    let c = with(&open(), "progress.operation.kind", 1 << 31);
+    let c = with(&ready(), "progress.operation.kind", 1 << 31);
     let state = to_reference(&c).expect("an idle state");
-    assert_eq!(from_reference(&state), open());
+    assert_eq!(from_reference(&state), ready());
 }

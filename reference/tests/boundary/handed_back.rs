@@ -10,7 +10,7 @@ fn mark(place: usize) -> u32 {
     0xA1B2_C300 + 0x0101_0100 * (place as u32 % 7) + (8 + place as u32)
 }
 
-/// Every call that may change a controller, refused with 1 in a state that is not ours, and what it leaves.
+/// Every call that may change a controller, refused with 1 in an invalid state, and what it leaves.
 fn refused_calls(c: Controller) -> Vec<(&'static str, u32, Controller)> {
     type Refused = fn(&mut Controller) -> u32;
     let list: [(&str, Refused); 15] = [
@@ -51,7 +51,7 @@ fn assert_handed_back(c: Controller) {
 
 #[test]
 fn each_field_alone_comes_back_from_a_refused_reset() {
-    for base in [Controller::default(), open()] {
+    for base in [Controller::default(), ready()] {
         for (place, field) in fields::all().iter().enumerate() {
             let mut c = base;
             field.set(&mut c, mark(place));
@@ -67,7 +67,7 @@ fn each_field_alone_comes_back_from_a_refused_reset() {
 #[test]
 fn each_field_alone_comes_back_from_every_refused_call() {
     for (place, field) in fields::all().iter().enumerate() {
-        let mut c = with(&open(), "phase", 9);
+        let mut c = with(&ready(), "phase", 9);
         field.set(&mut c, mark(place));
         assert_handed_back(c);
     }
@@ -82,7 +82,7 @@ fn all_fields_at_once_come_back() {
     assert_handed_back(c);
 }
 
-/// A right over 255 alone is enough, in a state that is ours without it.
+/// A right over 255 alone is enough, in a state that is valid without it.
 #[test]
 fn large_rights_come_back() {
     for field in [
@@ -91,7 +91,7 @@ fn large_rights_come_back() {
         "info_pages[25].rights",
     ] {
         for value in [256, 263, 1 << 31, u32::MAX] {
-            assert_handed_back(with(&open(), field, value));
+            assert_handed_back(with(&ready(), field, value));
         }
     }
 }
@@ -124,10 +124,10 @@ fn every_field_is_in_the_list() {
     assert_eq!(named("last_address"), c.last_address);
 }
 
-/// Refusals of a state that is ours keep what no rule looks at, too.
+/// Refusals of a valid state keep what no rule looks at, too.
 #[test]
-fn unused_places_come_back_from_a_state_that_is_ours() {
-    let mut c = open();
+fn unused_places_come_back_from_a_valid_state() {
+    let mut c = ready();
     for (place, field) in fields::all().iter().enumerate() {
         let unused = field.name.starts_with("progress.") && field.name != "progress.running";
         if unused || field.name.contains("queue.words") {

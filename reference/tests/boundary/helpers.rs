@@ -8,7 +8,7 @@ pub const D: u32 = 16;
 pub const INFO_PAGES_OF_TYPE: [(u32, u32); 3] = [(0, 10), (1, 1), (2, 2)];
 
 /// Just reset: everything else is 0.
-pub fn fresh() -> flat::Controller {
+pub fn uninitialised() -> flat::Controller {
     flat::Controller {
         data_pages: D,
         ..flat::Controller::default()
@@ -16,21 +16,21 @@ pub fn fresh() -> flat::Controller {
 }
 
 /// Ready, with no right at all.
-pub fn closed() -> flat::Controller {
+pub fn ready_without_rights() -> flat::Controller {
     flat::Controller {
         phase: flat::PHASE_READY,
-        ..fresh()
+        ..uninitialised()
     }
 }
 
 /// Ready, with every right.
-pub fn open() -> flat::Controller {
+pub fn ready() -> flat::Controller {
     flat::Controller {
         provision_enabled: 1,
         default_rights: 7,
         info_pages: [flat::PageSetting { on: 1, rights: 7 }; flat::INFO_PAGES],
         bank_erase: [1, 1],
-        ..closed()
+        ..ready_without_rights()
     }
 }
 

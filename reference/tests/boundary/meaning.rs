@@ -33,7 +33,7 @@ const KIND_OF_RIGHT: [(u32, u32); 3] = [(1, READ), (2, PROGRAM), (4, PAGE_ERASE)
 #[test]
 fn each_phase_is_understood() {
     for (phase, answer) in [(0, 3), (1, 12), (2, 2)] {
-        let mut c = with(&open(), "phase", phase);
+        let mut c = with(&ready(), "phase", phase);
         assert_eq!(calls::step(&mut c, &mut image()).answer, answer);
     }
 }
@@ -41,7 +41,7 @@ fn each_phase_is_understood() {
 #[test]
 fn d_is_understood() {
     for d in [10, 11, 200, 256] {
-        let c = with(&open(), "data_pages", d);
+        let c = with(&ready(), "data_pages", d);
         let image = vec![7; reference::model::image_words(d) as usize];
         assert_eq!(calls::host_read(&c, &image, 2 * d * 1024 - 4).answer, 0);
         assert_eq!(calls::host_read(&c, &image, 2 * d * 1024).answer, 7);
@@ -52,7 +52,7 @@ fn d_is_understood() {
 #[test]
 fn each_region_is_understood_in_each_field() {
     for number in 0..8 {
-        let mut c = closed();
+        let mut c = ready_without_rights();
         let region = |first_page, page_count, on, rights| Region {
             first_page,
             page_count,
@@ -78,7 +78,7 @@ fn each_region_is_understood_in_each_field() {
 #[test]
 fn the_order_of_the_regions_is_understood() {
     for number in 0..7 {
-        let mut c = closed();
+        let mut c = ready_without_rights();
         let region = |rights| Region {
             first_page: 0,
             page_count: 2,
@@ -96,7 +96,7 @@ fn the_order_of_the_regions_is_understood() {
 #[test]
 fn default_rights_are_understood() {
     for (rights, kind) in KIND_OF_RIGHT {
-        let c = with(&closed(), "default_rights", rights);
+        let c = with(&ready_without_rights(), "default_rights", rights);
         assert_eq!(kinds_allowed(c, data(0, 0x4400, 1)), [kind]);
     }
 }
@@ -105,7 +105,7 @@ fn default_rights_are_understood() {
 fn each_information_page_is_understood() {
     for (place, ..) in info_pages() {
         for (rights, kind) in KIND_OF_RIGHT {
-            let mut c = closed();
+            let mut c = ready_without_rights();
             c.provision_enabled = 1;
             c.info_pages[place] = PageSetting { on: 1, rights };
             for (other, bank, info_type, page) in info_pages() {
@@ -125,7 +125,7 @@ fn each_information_page_is_understood() {
 #[test]
 fn each_bank_erase_permission_is_understood() {
     for bank in 0..2 {
-        let c = with(&closed(), &format!("bank_erase[{bank}]"), 1);
+        let c = with(&ready_without_rights(), &format!("bank_erase[{bank}]"), 1);
         for other in 0..2 {
             let erase = data(BANK_ERASE, other * D * 1024, 0);
             let (answer, _) = left(c, |c| calls::start(c, erase));
@@ -140,7 +140,7 @@ fn each_input_is_understood() {
     for (provision, locked, creator, owner) in
         [(0, 0, 9, 9), (0, 1, 9, 9), (1, 0, 0, 0), (1, 1, 9, 0)]
     {
-        let mut c = open();
+        let mut c = ready();
         c.provision_enabled = provision;
         c.seeds_locked = locked;
         for (address, answer) in [(0x400, creator), (0x800, owner)] {

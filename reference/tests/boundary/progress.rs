@@ -47,7 +47,7 @@ fn each_field_of_a_started_operation_is_left_in_progress() {
             0,
         ),
     ] {
-        for base in [open(), with_old_progress(open())] {
+        for base in [ready(), with_old_progress(ready())] {
             let (answer, after) = left(base, |c| calls::start(c, operation));
             let progress = flat::Progress {
                 operation,
@@ -75,21 +75,21 @@ fn each_large_field_of_an_operation_counts_as_255() {
             },
         ];
         for operation in malformed {
-            let (answer, after) = left(open(), |c| calls::start(c, operation));
+            let (answer, after) = left(ready(), |c| calls::start(c, operation));
             assert_eq!(answer, 5, "{operation:?}");
             let recorded = [("recorded", 1 << 5), ("last_address", 0x0404)];
-            assert_changed(&after, &open(), &recorded);
+            assert_changed(&after, &ready(), &recorded);
         }
         let unused = Operation {
             info_type: large,
             ..read
         };
-        let (answer, after) = left(open(), |c| calls::start(c, unused));
+        let (answer, after) = left(ready(), |c| calls::start(c, unused));
         assert_eq!(answer, 0);
         assert_eq!(after.progress.operation.info_type, 255);
         assert_changed(
             &with(&after, "progress.operation.info_type", 0),
-            &with_progress(open(), read, 0),
+            &with_progress(ready(), read, 0),
             &[],
         );
     }
@@ -98,11 +98,13 @@ fn each_large_field_of_an_operation_counts_as_255() {
 #[test]
 fn a_denied_read_is_in_progress_with_nothing_readable() {
     let operation = data(READ, 0x0404, 3);
-    let (answer, mut after) = left(with_old_progress(closed()), |c| calls::start(c, operation));
+    let (answer, mut after) = left(with_old_progress(ready_without_rights()), |c| {
+        calls::start(c, operation)
+    });
     assert_eq!(answer, 9);
     assert_changed(
         &after,
-        &closed(),
+        &ready_without_rights(),
         &[
             ("progress.operation.address", 0x0404),
             ("progress.operation.count", 3),
@@ -117,7 +119,7 @@ fn a_denied_read_is_in_progress_with_nothing_readable() {
 
 /// The bus word that the next step of a read delivers, which tells its place.
 fn next_read(operation: Operation, moved: u32) -> u32 {
-    let mut c = with_progress(open(), operation, moved);
+    let mut c = with_progress(ready(), operation, moved);
     assert_eq!(calls::step(&mut c, &mut image()).answer, 0);
     assert_eq!(c.progress.moved, moved + 1);
     calls::pop(&mut c).word
@@ -144,7 +146,7 @@ fn count_and_kind_in_progress_decide_the_end() {
         (data(BANK_ERASE, 0x0400, 9), 4_096),
         (info(BANK_ERASE, 9, 0x0400, 9), 7_424),
     ] {
-        let mut c = with_progress(open(), operation, words - 2);
+        let mut c = with_progress(ready(), operation, words - 2);
         let mut image = image();
         let given = calls::step(&mut c, &mut image);
         assert_eq!((given.answer, given.movement), (0, flat::MOVEMENT_MOVED));
@@ -157,7 +159,7 @@ fn count_and_kind_in_progress_decide_the_end() {
 /// `readable` of a program or an erase is looked at by no rule.
 #[test]
 fn readable_of_a_program_is_free() {
-    let mut c = with_progress(open(), data(PROGRAM, 0x0400, 4), 0);
+    let mut c = with_progress(ready(), data(PROGRAM, 0x0400, 4), 0);
     c.progress.readable = 0xABCD;
     let (answer, after) = left(c, |c| calls::push(c, 5));
     assert_eq!(answer, 0);
@@ -167,7 +169,7 @@ fn readable_of_a_program_is_free() {
 #[test]
 fn each_word_of_the_read_queue_is_popped_in_its_turn() {
     for length in 1..=16 {
-        let mut c = open();
+        let mut c = ready();
         c.read_queue.length = length;
         c.read_queue.words = std::array::from_fn(|i| 0x0100_0000 * (i as u32 + 1) + 9);
         for i in 0..length {
@@ -176,13 +178,13 @@ fn each_word_of_the_read_queue_is_popped_in_its_turn() {
             assert_eq!(c.read_queue.length, length - 1 - i);
         }
         assert_eq!(calls::pop(&mut c).answer, 10);
-        assert_eq!(c, open());
+        assert_eq!(c, ready());
     }
 }
 
 #[test]
 fn each_read_word_lands_in_the_next_place_of_the_read_queue() {
-    let (_, mut c) = left(open(), |c| calls::start(c, data(READ, 0x0400, 20)));
+    let (_, mut c) = left(ready(), |c| calls::start(c, data(READ, 0x0400, 20)));
     let mut image = image();
     for place in 0..16 {
         let (_, after) = left(c, |c| calls::step(c, &mut image));
@@ -208,7 +210,7 @@ fn each_read_word_lands_in_the_next_place_of_the_read_queue() {
 #[test]
 fn each_pushed_word_lands_in_the_program_queue_and_then_in_flash() {
     let word = |place: u32| 0xF0F0_0000 | place;
-    let (_, mut c) = left(open(), |c| calls::start(c, data(PROGRAM, 0x0440, 16)));
+    let (_, mut c) = left(ready(), |c| calls::start(c, data(PROGRAM, 0x0440, 16)));
     for place in 0..16 {
         let (answer, after) = left(c, |c| calls::push(c, word(place)));
         assert_eq!(answer, 0);
@@ -228,13 +230,13 @@ fn each_pushed_word_lands_in_the_program_queue_and_then_in_flash() {
         assert_eq!(flash[272 + place as usize], word(place));
         assert_eq!(c.program_queue.length, 15 - place);
     }
-    assert_eq!(c, open());
+    assert_eq!(c, ready());
     assert_eq!(flash.iter().filter(|word| **word != u32::MAX).count(), 16);
 }
 
 #[test]
 fn each_recorded_kind_has_its_bit_and_its_address() {
-    let mut c = with(&open(), "default_rights", 5);
+    let mut c = with(&ready(), "default_rights", 5);
     let mut kinds = 0;
     for (operation, answer) in [
         (data(77, 0x11, 1), 5),

@@ -6,7 +6,7 @@ use reference::interface::flat::{self, Seeds, PAGE_ERASE, PROGRAM, READ};
 
 #[test]
 fn each_seed_word_is_handed_out() {
-    let mut c = fresh();
+    let mut c = uninitialised();
     c.provision_enabled = 1;
     let (given, after) = left(c, |c| calls::initialise(c, &image()));
     let seeds = Seeds {
@@ -20,22 +20,22 @@ fn each_seed_word_is_handed_out() {
 
 #[test]
 fn no_seeds_without_provision_or_when_refused() {
-    let given = calls::initialise(&mut fresh(), &image());
+    let given = calls::initialise(&mut uninitialised(), &image());
     assert_eq!((given.answer, given.seeds), (0, Seeds::default()));
-    let given = calls::initialise(&mut open(), &image());
+    let given = calls::initialise(&mut ready(), &image());
     assert_eq!((given.answer, given.seeds), (12, Seeds::default()));
 }
 
 #[test]
 fn a_step_tells_movement_and_bits() {
-    let mut c = with_progress(open(), data(PAGE_ERASE, 0, 0), 0xC3);
+    let mut c = with_progress(ready(), data(PAGE_ERASE, 0, 0), 0xC3);
     let given = calls::step(&mut c, &mut image());
     let bits = 0xC3_u32.count_zeros();
     assert_eq!(
         (given.answer, given.movement, given.bits),
         (0, flat::MOVEMENT_MOVED, bits)
     );
-    let given = calls::step(&mut open(), &mut image());
+    let given = calls::step(&mut ready(), &mut image());
     assert_eq!(
         (given.answer, given.movement, given.bits),
         (12, flat::MOVEMENT_NONE, 0)
@@ -46,10 +46,10 @@ fn a_step_tells_movement_and_bits() {
 fn a_whole_operation_tells_its_bits_and_uses_its_buffer() {
     let mut flash = vec![u32::MAX; image().len()];
     let mut buffer = [0x1234_5678, 0xFFFF_0000, 0x5555_5555];
-    let mut c = open();
+    let mut c = ready();
     let given = calls::run(&mut c, &mut flash, data(PROGRAM, 0x4404, 2), &mut buffer);
     assert_eq!((given.answer, given.bits), (0, 19 + 16));
-    assert_eq!(c, open());
+    assert_eq!(c, ready());
     assert_eq!(buffer, [0x1234_5678, 0xFFFF_0000, 0x5555_5555]);
     assert_eq!(flash[7_681..7_684], [0x1234_5678, 0xFFFF_0000, u32::MAX]);
 
@@ -69,18 +69,18 @@ fn lengths_of_image_and_buffer_arrive() {
     let right = flash.len();
     for length in [0, 1, right - 1] {
         let lent = &mut flash[..length];
-        assert_eq!(calls::step(&mut open(), lent).answer, 1);
-        assert_eq!(calls::host_read(&open(), lent, 0).answer, 1);
-        assert_eq!(calls::view(&open(), lent, 0).answer, 1);
-        assert_eq!(calls::initialise(&mut fresh(), lent).answer, 1);
-        assert_eq!(calls::rma(&mut open(), lent), 1);
+        assert_eq!(calls::step(&mut ready(), lent).answer, 1);
+        assert_eq!(calls::host_read(&ready(), lent, 0).answer, 1);
+        assert_eq!(calls::view(&ready(), lent, 0).answer, 1);
+        assert_eq!(calls::initialise(&mut uninitialised(), lent).answer, 1);
+        assert_eq!(calls::rma(&mut ready(), lent), 1);
     }
     flash.push(0);
-    assert_eq!(calls::host_read(&open(), &flash, 0).answer, 1);
+    assert_eq!(calls::host_read(&ready(), &flash, 0).answer, 1);
     flash.pop();
     for (length, answer) in [(0, 6), (2, 6), (3, 0), (4, 0)] {
         let buffer = &mut [0; 4][..length];
-        let given = calls::run(&mut open(), &mut flash, data(READ, 0, 3), buffer);
+        let given = calls::run(&mut ready(), &mut flash, data(READ, 0, 3), buffer);
         assert_eq!(given.answer, answer);
     }
     assert_eq!(flash, image());
@@ -90,13 +90,13 @@ fn lengths_of_image_and_buffer_arrive() {
 fn a_view_tells_where_each_page_starts() {
     let image = image();
     for page in 0..2 * D {
-        let given = calls::view(&open(), &image, page);
+        let given = calls::view(&ready(), &image, page);
         let start = page * 256 + if page < D { 0 } else { 13 * 256 };
         assert_eq!((given.answer, given.start), (0, start));
     }
-    let given = calls::view(&open(), &image, 2 * D);
+    let given = calls::view(&ready(), &image, 2 * D);
     assert_eq!((given.answer, given.start), (7, 0));
-    let given = calls::view(&closed(), &image, 5);
+    let given = calls::view(&ready_without_rights(), &image, 5);
     assert_eq!((given.answer, given.start), (9, 0));
 }
 
@@ -104,10 +104,10 @@ fn a_view_tells_where_each_page_starts() {
 fn a_host_read_tells_the_word() {
     let image = image();
     for (address, place) in [(0, 0), (0x3FFC, 4_095), (0x4000, 7_424), (0x7FFC, 11_519)] {
-        let given = calls::host_read(&open(), &image, address);
+        let given = calls::host_read(&ready(), &image, address);
         assert_eq!((given.answer, given.word), (0, place));
     }
-    let given = calls::host_read(&closed(), &image, 0x40);
+    let given = calls::host_read(&ready_without_rights(), &image, 0x40);
     assert_eq!((given.answer, given.word), (9, 0));
 }
 
@@ -115,11 +115,11 @@ fn a_host_read_tells_the_word() {
 #[test]
 fn rma_wipes_and_disables() {
     let mut flash = image();
-    let mut c = open();
+    let mut c = ready();
     c.read_queue.length = 3;
     c.read_queue.words[..3].copy_from_slice(&[1, 2, 3]);
     assert_eq!(calls::rma(&mut c, &mut flash), 0);
-    assert_changed(&c, &open(), &[("phase", 2)]);
+    assert_changed(&c, &ready(), &[("phase", 2)]);
     for (place, word) in flash.iter().enumerate() {
         let (bank, page) = (place / 7_424, place % 7_424 / 256);
         let wiped = page < 16 || bank == 0 && (17..20).contains(&page);

@@ -8,9 +8,9 @@ use reference::interface::flat::{Controller, PageSetting, Region};
 #[test]
 fn reset_sets_d_alone() {
     for d in 10..=256 {
-        let (answer, after) = left(open(), |c| calls::reset(c, d));
+        let (answer, after) = left(ready(), |c| calls::reset(c, d));
         assert_eq!((answer, after.data_pages), (0, d));
-        assert_changed(&with(&after, "data_pages", D), &fresh(), &[]);
+        assert_changed(&with(&after, "data_pages", D), &uninitialised(), &[]);
     }
 }
 
@@ -27,11 +27,11 @@ fn each_input_lands_in_its_own_field() {
         (0, 1 << 31, &[("seeds_locked", 1)]),
     ];
     for (provision_enabled, seeds_locked, changed) in cases {
-        let (answer, after) = left(fresh(), |c| {
+        let (answer, after) = left(uninitialised(), |c| {
             calls::set_inputs(c, provision_enabled, seeds_locked)
         });
         assert_eq!(answer, 0);
-        assert_changed(&after, &fresh(), changed);
+        assert_changed(&after, &uninitialised(), changed);
     }
 }
 
@@ -63,10 +63,10 @@ fn each_part_of_a_region_lands_in_its_own_field() {
     ];
     for number in 0..8 {
         for (part, value, region) in parts {
-            let (answer, after) = left(fresh(), |c| calls::set_region(c, number, region));
+            let (answer, after) = left(uninitialised(), |c| calls::set_region(c, number, region));
             assert_eq!(answer, 0);
             let field = format!("regions[{number}].{part}");
-            assert_changed(&after, &fresh(), &[(&field, value)]);
+            assert_changed(&after, &uninitialised(), &[(&field, value)]);
         }
     }
 }
@@ -80,12 +80,12 @@ fn each_information_page_lands_in_its_own_fields() {
             ("on", 1, PageSetting { on: 512, rights: 0 }),
             ("rights", 6, PageSetting { on: 0, rights: 6 }),
         ] {
-            let (answer, after) = left(fresh(), |c| {
+            let (answer, after) = left(uninitialised(), |c| {
                 calls::set_info_page(c, bank, info_type, page, setting)
             });
             assert_eq!(answer, 0);
             let field = format!("info_pages[{place}].{part}");
-            assert_changed(&after, &fresh(), &[(&field, value)]);
+            assert_changed(&after, &uninitialised(), &[(&field, value)]);
         }
     }
 }
@@ -93,17 +93,17 @@ fn each_information_page_lands_in_its_own_fields() {
 #[test]
 fn default_rights_and_bank_erases_land_in_their_own_fields() {
     for rights in 1..=7 {
-        let (_, after) = left(fresh(), |c| calls::set_default_rights(c, rights));
-        assert_changed(&after, &fresh(), &[("default_rights", rights)]);
+        let (_, after) = left(uninitialised(), |c| calls::set_default_rights(c, rights));
+        assert_changed(&after, &uninitialised(), &[("default_rights", rights)]);
     }
     for bank in 0..2 {
         let field = format!("bank_erase[{bank}]");
         for on in [1, 2, 255, 256, u32::MAX] {
-            let (_, after) = left(fresh(), |c| calls::set_bank_erase(c, bank, on));
-            assert_changed(&after, &fresh(), &[(&field, 1)]);
+            let (_, after) = left(uninitialised(), |c| calls::set_bank_erase(c, bank, on));
+            assert_changed(&after, &uninitialised(), &[(&field, 1)]);
         }
-        let (_, after) = left(open(), |c| calls::set_bank_erase(c, bank, 0));
-        assert_changed(&after, &open(), &[(&field, 0)]);
+        let (_, after) = left(ready(), |c| calls::set_bank_erase(c, bank, 0));
+        assert_changed(&after, &ready(), &[(&field, 0)]);
     }
 }
 
@@ -121,9 +121,9 @@ fn setting(rights: u32) -> PageSetting {
 }
 
 fn assert_refused(call: impl FnOnce(&mut Controller) -> u32) {
-    let (answer, after) = left(fresh(), call);
+    let (answer, after) = left(uninitialised(), call);
     assert_eq!(answer, 13);
-    assert_changed(&after, &fresh(), &[]);
+    assert_changed(&after, &uninitialised(), &[]);
 }
 
 /// Arguments out of range, each alone.

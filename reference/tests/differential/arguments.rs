@@ -1,12 +1,12 @@
 //! Arguments of calls: mostly sensible and near a border, sometimes nonsense.
 
-use crate::dice::Dice;
+use crate::rng::Rng;
 use reference::interface::flat;
 use reference::model::Controller;
 
 /// Draws arguments that suit a state.
 pub struct Arguments<'a> {
-    pub dice: &'a mut Dice,
+    pub rng: &'a mut Rng,
     pub state: &'a Controller,
 }
 
@@ -20,53 +20,53 @@ impl Arguments<'_> {
 
     /// A flag argument is true at any other number than 0.
     pub fn flag(&mut self) -> u32 {
-        self.dice
+        self.rng
             .pick(&[0, 0, 0, 0, 1, 1, 1, 1, 2, 255, 256, 1 << 31])
     }
 
     /// Over 255, often with the low bits of a small number, which they must not be taken for.
     fn large(&mut self) -> u32 {
-        let small = self.dice.below(8);
-        match self.dice.below(4) {
+        let small = self.rng.below(8);
+        match self.rng.below(4) {
             0 => 256 + small,
-            1 => (1 << self.dice.between(8, 31)) + small,
-            2 => self.dice.pick(&[300, 511, 1 << 16, 1 << 31, u32::MAX]),
-            _ => self.dice.word().max(256),
+            1 => (1 << self.rng.between(8, 31)) + small,
+            2 => self.rng.pick(&[300, 511, 1 << 16, 1 << 31, u32::MAX]),
+            _ => self.rng.word().max(256),
         }
     }
 
     /// Often all rights or all but one.
     pub fn rights(&mut self) -> u32 {
-        match self.dice.below(40) {
-            0 => self.dice.pick(&[8, 9, 15, 128, 255]),
+        match self.rng.below(40) {
+            0 => self.rng.pick(&[8, 9, 15, 128, 255]),
             1 => self.large(),
             2..=13 => 7,
-            14..=19 => 7 ^ self.dice.pick(&[1, 2, 4]),
-            _ => self.dice.below(8),
+            14..=19 => 7 ^ self.rng.pick(&[1, 2, 4]),
+            _ => self.rng.below(8),
         }
     }
 
     pub fn region_number(&mut self) -> u32 {
-        match self.dice.below(16) {
-            0 => self.dice.pick(&[8, 9, 16, 256, u32::MAX]),
-            _ => self.dice.below(8),
+        match self.rng.below(16) {
+            0 => self.rng.pick(&[8, 9, 16, 256, u32::MAX]),
+            _ => self.rng.below(8),
         }
     }
 
     /// Overlapping regions of any length, often ending or beginning at a border.
     pub fn region(&mut self) -> flat::Region {
         let pages = 2 * self.data_pages();
-        let first_page = match self.dice.below(4) {
+        let first_page = match self.rng.below(4) {
             0 => self.border_page(),
-            _ => self.dice.below(pages + 1),
+            _ => self.rng.below(pages + 1),
         };
         let room = pages.saturating_sub(first_page);
-        let page_count = match self.dice.below(12) {
+        let page_count = match self.rng.below(12) {
             0 => room,
             1 => room + 1,
-            2 => self.dice.pick(&[0, u32::MAX, first_page.wrapping_neg()]),
-            3..=7 => room.min(self.dice.between(1, 4)),
-            _ => self.dice.below(room + 1),
+            2 => self.rng.pick(&[0, u32::MAX, first_page.wrapping_neg()]),
+            3..=7 => room.min(self.rng.between(1, 4)),
+            _ => self.rng.below(room + 1),
         };
         flat::Region {
             first_page,
@@ -84,15 +84,15 @@ impl Arguments<'_> {
     }
 
     pub fn bank(&mut self) -> u32 {
-        match self.dice.below(16) {
-            0 => self.dice.pick(&[2, 3, u32::MAX]),
-            _ => self.dice.below(2),
+        match self.rng.below(16) {
+            0 => self.rng.pick(&[2, 3, u32::MAX]),
+            _ => self.rng.below(2),
         }
     }
 
     pub fn info_type(&mut self) -> u32 {
-        match self.dice.below(48) {
-            0 => self.dice.pick(&[3, 4, 255]),
+        match self.rng.below(48) {
+            0 => self.rng.pick(&[3, 4, 255]),
             1 => self.large(),
             2..=11 => 1,
             12..=23 => 2,
@@ -103,10 +103,10 @@ impl Arguments<'_> {
     /// A page number in a type: also the first past its last.
     pub fn page_of_type(&mut self, info_type: u32) -> u32 {
         let pages = pages_of_type(info_type);
-        match self.dice.below(16) {
+        match self.rng.below(16) {
             0 => pages,
-            1 => self.dice.pick(&[pages + 1, 13, u32::MAX]),
-            _ => self.dice.below(pages),
+            1 => self.rng.pick(&[pages + 1, 13, u32::MAX]),
+            _ => self.rng.below(pages),
         }
     }
 
@@ -114,18 +114,18 @@ impl Arguments<'_> {
 
     /// A data page: of a region's or bank's border, else any; rarely past the last.
     pub fn data_page(&mut self) -> u32 {
-        match self.dice.below(10) {
+        match self.rng.below(10) {
             0..=3 => self.border_page(),
             4 => 2 * self.data_pages(),
-            _ => self.dice.below(2 * self.data_pages()),
+            _ => self.rng.below(2 * self.data_pages()),
         }
     }
 
     fn border_page(&mut self) -> u32 {
         let d = self.data_pages();
-        let region = self.state.regions[self.dice.below(8) as usize];
+        let region = self.state.regions[self.rng.below(8) as usize];
         let end = region.first_page.saturating_add(region.page_count);
-        let border = self.dice.pick(&[
+        let border = self.rng.pick(&[
             0,
             1,
             d - 1,
@@ -141,10 +141,10 @@ impl Arguments<'_> {
 
     /// A page of the address space that holds information pages of a type, or is next to them.
     fn info_page(&mut self, info_type: u32) -> u32 {
-        let bank = self.dice.below(2) * self.data_pages();
-        let page = match self.dice.below(8) {
+        let bank = self.rng.below(2) * self.data_pages();
+        let page = match self.rng.below(8) {
             0 => self.data_pages() - 1,
-            1 => self.dice.below(self.data_pages()),
+            1 => self.rng.below(self.data_pages()),
             2 => pages_of_type(info_type) - 1,
             _ => self.page_of_type(info_type).min(self.data_pages()),
         };
@@ -153,24 +153,24 @@ impl Arguments<'_> {
 
     /// The offset of a word in its page, often beside the end of a window or of the page.
     fn offset(&mut self) -> u32 {
-        let window = 64 * self.dice.below(16);
-        match self.dice.below(6) {
+        let window = 64 * self.rng.below(16);
+        match self.rng.below(6) {
             0 => 0,
-            1 => 1024 - 4 * self.dice.between(1, 4),
+            1 => 1024 - 4 * self.rng.between(1, 4),
             2 => window,
-            3 => window + 64 - 4 * self.dice.between(1, 3),
-            _ => 4 * self.dice.below(256),
+            3 => window + 64 - 4 * self.rng.between(1, 3),
+            _ => 4 * self.rng.below(256),
         }
     }
 
     /// Rarely spoiled: unaligned, or far outside.
     fn address(&mut self, page: u32) -> u32 {
         let address = page.saturating_mul(1024).saturating_add(self.offset());
-        match self.dice.below(40) {
-            0 => address | self.dice.between(1, 3),
-            1 => self.dice.word(),
-            2 => u32::MAX - self.dice.below(8),
-            3 => u32::MAX - 4 * self.dice.below(300) - 3,
+        match self.rng.below(40) {
+            0 => address | self.rng.between(1, 3),
+            1 => self.rng.word(),
+            2 => u32::MAX - self.rng.below(8),
+            3 => u32::MAX - 4 * self.rng.below(300) - 3,
             _ => address,
         }
     }
@@ -181,8 +181,8 @@ impl Arguments<'_> {
     }
 
     pub fn view_page(&mut self) -> u32 {
-        match self.dice.below(16) {
-            0 => self.dice.pick(&[u32::MAX, 1 << 22, 1 << 30, 4096, 513]),
+        match self.rng.below(16) {
+            0 => self.rng.pick(&[u32::MAX, 1 << 22, 1 << 30, 4096, 513]),
             _ => self.data_page(),
         }
     }
@@ -190,13 +190,13 @@ impl Arguments<'_> {
     // -- operations ----------------------------------------------------------
 
     pub fn operation(&mut self) -> flat::Operation {
-        let kind = match self.dice.weighted(&[36, 36, 16, 8, 2, 1]) {
-            4 => self.dice.pick(&[4, 5, 9, 128, 255]),
+        let kind = match self.rng.weighted(&[36, 36, 16, 8, 2, 1]) {
+            4 => self.rng.pick(&[4, 5, 9, 128, 255]),
             5 => self.large(),
             known => known as u32,
         };
-        let partition = match self.dice.weighted(&[58, 40, 1, 1]) {
-            2 => self.dice.pick(&[2, 3, 255]),
+        let partition = match self.rng.weighted(&[58, 40, 1, 1]) {
+            2 => self.rng.pick(&[2, 3, 255]),
             3 => self.large(),
             known => known as u32,
         };
@@ -216,8 +216,8 @@ impl Arguments<'_> {
     }
 
     fn count(&mut self, kind: u32, address: u32) -> u32 {
-        if self.dice.percent(4) {
-            return self.dice.pick(&[
+        if self.rng.percent(4) {
+            return self.rng.pick(&[
                 0,
                 1025,
                 2048,
@@ -231,43 +231,43 @@ impl Arguments<'_> {
         match kind {
             flat::READ => self.read_count(address),
             flat::PROGRAM => self.program_count(address),
-            _ => self.dice.word(),
+            _ => self.rng.word(),
         }
     }
 
     /// Long reads are rare: the second program judges each of their words at each call.
     fn read_count(&mut self, address: u32) -> u32 {
         let to_page_end = 256 - address / 4 % 256;
-        match self.dice.weighted(&[50, 20, 24, 4, 2]) {
-            0 => self.dice.between(1, 20),
-            1 => self.dice.pick(&[15, 16, 17, 32, 33]),
-            2 => to_page_end.min(40) + self.dice.below(2),
-            3 => to_page_end + self.dice.below(3) * 256,
-            _ => self.dice.pick(&[1024, 1023, 512, 768, 769]),
+        match self.rng.weighted(&[50, 20, 24, 4, 2]) {
+            0 => self.rng.between(1, 20),
+            1 => self.rng.pick(&[15, 16, 17, 32, 33]),
+            2 => to_page_end.min(40) + self.rng.below(2),
+            3 => to_page_end + self.rng.below(3) * 256,
+            _ => self.rng.pick(&[1024, 1023, 512, 768, 769]),
         }
     }
 
     /// Mostly up to its window's end, sometimes one past it.
     fn program_count(&mut self, address: u32) -> u32 {
         let to_window_end = 16 - address / 4 % 16;
-        match self.dice.below(16) {
+        match self.rng.below(16) {
             0 => to_window_end + 1,
-            1 => self.dice.between(1, 40),
-            2 => self.dice.pick(&[1024, 1023, 256, 17]),
+            1 => self.rng.between(1, 40),
+            2 => self.rng.pick(&[1024, 1023, 256, 17]),
             3..=8 => to_window_end,
-            _ => self.dice.between(1, to_window_end),
+            _ => self.rng.between(1, to_window_end),
         }
     }
 
     /// Long enough in most cases; else too short by one or more, or none at all.
     pub fn buffer_words(&mut self, operation: &flat::Operation) -> usize {
         let count = operation.count.min(1025);
-        let words = match self.dice.below(12) {
+        let words = match self.rng.below(12) {
             0 => count.saturating_sub(1),
             1 => 0,
-            2 => self.dice.below(count + 1),
+            2 => self.rng.below(count + 1),
             3..=6 => count,
-            _ => count + self.dice.between(1, 15),
+            _ => count + self.rng.between(1, 15),
         };
         words as usize
     }

@@ -2,8 +2,8 @@
 
 use crate::calls::{on_model, on_second, Call, Memory, Outcome};
 use crate::compare;
-use crate::dice::Dice;
 use crate::panics::caught;
+use crate::rng::Rng;
 use reference::interface::{fields, flat, to_reference};
 use reference::model::{self, Controller};
 use std::ops::Range;
@@ -19,7 +19,7 @@ pub const BUFFER_WORDS: usize = 1_040;
 pub struct Start {
     pub controller: flat::Controller,
     /// The largest D whose image fits.
-    pub shelf: u32,
+    pub max_data_pages: u32,
     pub image_seed: u64,
 }
 
@@ -64,7 +64,7 @@ pub struct Bench {
 impl Bench {
     pub fn new(start: &Start, alter: Alter) -> Self {
         let memory = Memory {
-            image: Dice::new(start.image_seed).flash_words(image_room(start.shelf)),
+            image: Rng::new(start.image_seed).flash_words(image_room(start.max_data_pages)),
             buffer: vec![0; BUFFER_WORDS],
         };
         Bench {
@@ -82,9 +82,9 @@ impl Bench {
         &self.flat
     }
 
-    /// The second program's state, if it is ours.
+    /// The second program's state, if it is valid.
     pub fn state(&self) -> Option<&Controller> {
-        self.second.as_ref().filter(|c| model::is_ours(c))
+        self.second.as_ref().filter(|c| model::is_valid(c))
     }
 
     pub fn image_room(&self) -> usize {
@@ -181,8 +181,8 @@ impl Bench {
     }
 }
 
-fn image_room(shelf: u32) -> usize {
-    model::image_words(shelf) as usize + IMAGE_ROOM
+fn image_room(max_data_pages: u32) -> usize {
+    model::image_words(max_data_pages) as usize + IMAGE_ROOM
 }
 
 /// The image's page that holds the word which a step of this state changes.

@@ -1,11 +1,11 @@
 //! The calls of document 01 with their arguments, made on the proved model
 //! through its C interface and on the second program.
 
-use crate::dice::Dice;
+use crate::rng::Rng;
 use reference::interface::{
     asked_byte, asked_flag, asked_operation, asked_region, asked_setting, calls as library, flat,
 };
-use reference::model::{self, Controller, Progress, NOT_OURS};
+use reference::model::{self, Controller, Progress, INVALID};
 use std::ops::Range;
 
 /// Image lengths are in bus words; a buffer holds what its seed gives before the call.
@@ -98,7 +98,7 @@ impl Memory {
         buffer_words: usize,
         buffer_seed: u64,
     ) -> (&mut [u32], &mut [u32]) {
-        self.buffer = Dice::new(buffer_seed).flash_words(self.buffer.len());
+        self.buffer = Rng::new(buffer_seed).flash_words(self.buffer.len());
         let image_words = image_words.min(self.image.len());
         let buffer_words = buffer_words.min(self.buffer.len());
         (
@@ -250,7 +250,7 @@ pub fn on_second(call: &Call, state: &mut Option<Controller>, memory: &mut Memor
     }
     let Some(c) = state else {
         refill(call, memory);
-        return Outcome::answer(NOT_OURS);
+        return Outcome::answer(INVALID);
     };
     match *call {
         Call::SetInputs {

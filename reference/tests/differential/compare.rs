@@ -91,8 +91,8 @@ fn changes_state(call: &Call, answer: u32) -> bool {
 fn is_recorded(answer: u32) -> bool {
     [
         model::MALFORMED,
-        model::OUTSIDE,
-        model::WINDOW,
+        model::OUT_OF_RANGE,
+        model::CROSSES_WINDOW,
         model::DENIED,
     ]
     .map(u32::from)

@@ -4,7 +4,7 @@
 use crate::arguments::Arguments;
 use crate::bench::{Bench, Start, Turn, Write};
 use crate::calls::Call;
-use crate::dice::Dice;
+use crate::rng::Rng;
 use crate::states;
 use crate::table::DATA_PAGES;
 use reference::interface::{flat, to_reference};
@@ -18,8 +18,8 @@ const SWEEP_LENGTH: u32 = 40;
 /// After them, one episode in so many takes the next D of all.
 const EPISODES_PER_SWEPT_D: u64 = 3;
 /// One episode in so many, an odd number for two workers, runs bank erases by steps to their end.
-const EPISODES_PER_PATIENT_ONE: u64 = 121;
-const PATIENT_LENGTH: u32 = 10_000;
+const EPISODES_PER_LONG_ONE: u64 = 121;
+const LONG_LENGTH: u32 = 10_000;
 /// The rhythm of steps against pushes or pops changes about every so many turns.
 const TURNS_PER_RHYTHM: u32 = 40;
 /// Weights of steps and of pushes or pops.
@@ -27,23 +27,23 @@ const RHYTHMS: [(u32, u32); 3] = [(700, 150), (420, 420), (150, 700)];
 
 /// How one episode goes.
 #[derive(Clone, Copy, Debug, PartialEq, Eq)]
-enum Temper {
+enum Mode {
     /// Everything is tried.
-    Lively,
+    Mixed,
     /// Bank erases run to their end, nearly undisturbed.
-    Patient,
+    BankErases,
 }
 
 /// What a run is in the middle of.
 #[derive(Clone, Copy, Debug, PartialEq, Eq)]
 enum Situation {
-    NotOurs,
-    Fresh,
+    Invalid,
+    Uninitialised,
     Idle,
     Reading,
     Programming,
     Erasing,
-    Shut,
+    Disabled,
 }
 
 #[derive(Clone, Copy, Debug, PartialEq, Eq)]
@@ -88,75 +88,75 @@ const CHOICES: [Choice; 16] = [
 /// Weights of the choices, in their order; the rhythm sets those that are 0.
 fn weights(situation: Situation) -> [u32; 16] {
     match situation {
-        Situation::NotOurs => [
+        Situation::Invalid => [
             500, 30, 30, 30, 30, 30, 30, 30, 30, 30, 30, 30, 30, 30, 30, 30,
         ],
-        Situation::Fresh => [
+        Situation::Uninitialised => [
             10, 60, 150, 50, 150, 50, 150, 30, 30, 30, 30, 50, 30, 30, 20, 4,
         ],
         Situation::Idle => [2, 20, 50, 20, 50, 20, 8, 280, 15, 15, 0, 240, 80, 80, 10, 2],
         Situation::Reading => [1, 6, 6, 6, 6, 6, 4, 10, 0, 6, 0, 10, 30, 30, 6, 4],
         Situation::Programming => [1, 6, 6, 6, 6, 6, 4, 10, 0, 0, 6, 10, 30, 30, 6, 4],
         Situation::Erasing => [1, 4, 4, 4, 4, 4, 4, 8, 900, 6, 10, 8, 20, 20, 6, 4],
-        Situation::Shut => [
+        Situation::Disabled => [
             60, 60, 60, 60, 60, 60, 60, 60, 60, 60, 60, 60, 60, 60, 60, 40,
         ],
     }
 }
 
 pub struct Generator {
-    dice: Dice,
-    temper: Temper,
+    rng: Rng,
+    mode: Mode,
     rhythm: (u32, u32),
 }
 
 impl Generator {
     /// The generator of one episode, the run's start, and its length in calls.
     pub fn of_episode(seed: u64, episode: u64) -> (Self, Start, u32) {
-        let mut dice = Dice::new(seed);
-        let patient = episode > SWEEP && episode.is_multiple_of(EPISODES_PER_PATIENT_ONE);
-        let data_pages = data_pages_of(&mut dice, episode);
-        let (temper, start, length) = if patient {
-            let few_pages = dice.pick(&SMALL_DATA_PAGES);
-            let start = states::open(&mut dice, few_pages);
-            (Temper::Patient, start, PATIENT_LENGTH)
+        let mut rng = Rng::new(seed);
+        let bank_erases = episode > SWEEP && episode.is_multiple_of(EPISODES_PER_LONG_ONE);
+        let data_pages = data_pages_of(&mut rng, episode);
+        let (mode, start, length) = if bank_erases {
+            let few_pages = rng.pick(&SMALL_DATA_PAGES);
+            let start = states::all_rights(&mut rng, few_pages);
+            (Mode::BankErases, start, LONG_LENGTH)
         } else if episode < SWEEP {
-            let start = states::ours(&mut dice, data_pages);
-            (Temper::Lively, start, SWEEP_LENGTH)
+            let start = states::valid(&mut rng, data_pages);
+            (Mode::Mixed, start, SWEEP_LENGTH)
         } else {
-            let start = states::any(&mut dice, data_pages);
-            (Temper::Lively, start, dice.between(100, 600))
+            let start = states::any(&mut rng, data_pages);
+            (Mode::Mixed, start, rng.between(100, 600))
         };
         let generator = Generator {
-            dice,
-            temper,
+            rng,
+            mode,
             rhythm: RHYTHMS[1],
         };
         (generator, start, length)
     }
 
     pub fn turn(&mut self, bench: &Bench) -> Turn {
-        if self.dice.below(TURNS_PER_RHYTHM) == 0 {
-            self.rhythm = self.dice.pick(&RHYTHMS);
+        if self.rng.below(TURNS_PER_RHYTHM) == 0 {
+            self.rhythm = self.rng.pick(&RHYTHMS);
         }
-        match self.temper {
-            Temper::Lively => self.lively_turn(bench),
-            Temper::Patient => self.patient_turn(bench),
+        match self.mode {
+            Mode::Mixed => self.mixed_turn(bench),
+            Mode::BankErases => self.bank_erase_turn(bench),
         }
     }
 
-    fn lively_turn(&mut self, bench: &Bench) -> Turn {
+    fn mixed_turn(&mut self, bench: &Bench) -> Turn {
         let situation = situation(bench.state());
         let in_progress = bench.flat().progress.running == 1;
-        let ours = situation != Situation::NotOurs;
-        match self.dice.below(1_000) {
-            0..=39 if ours => self.written_turn(bench),
-            40..=79 if ours && in_progress => {
-                let writes = states::near_its_end(&mut self.dice, bench.flat());
+        let valid = situation != Situation::Invalid;
+        match self.rng.below(1_000) {
+            0..=39 if valid => self.written_turn(bench),
+            40..=79 if valid && in_progress => {
+                let writes = states::near_its_end(&mut self.rng, bench.flat());
                 self.turn_after(bench, writes, Choice::Step)
             }
-            80..=84 if ours && !in_progress => {
-                let writes = states::settings_written(&mut self.dice, bench.flat());
+            80..=84 if valid && !in_progress => {
+                let writes = states::settings_written(&mut self.rng, bench.flat());
                 let choice = self.choice(bench.state());
                 self.turn_after(bench, writes, choice)
             }
@@ -171,18 +171,18 @@ impl Generator {
     fn written_turn(&mut self, bench: &Bench) -> Turn {
         let flat = bench.flat();
         let writes = match bench.state() {
-            Some(state) if self.dice.percent(20) => {
-                states::progress_written(&mut self.dice, flat, state)
+            Some(state) if self.rng.percent(20) => {
+                states::progress_written(&mut self.rng, flat, state)
             }
-            _ => states::fields_written(&mut self.dice, flat),
+            _ => states::fields_written(&mut self.rng, flat),
         };
-        let choice = self.dice.pick(&CHOICES);
+        let choice = self.rng.pick(&CHOICES);
         self.turn_after(bench, writes, choice)
     }
 
-    fn patient_turn(&mut self, bench: &Bench) -> Turn {
+    fn bank_erase_turn(&mut self, bench: &Bench) -> Turn {
         if situation(bench.state()) == Situation::Erasing {
-            let choice = match self.dice.below(200) {
+            let choice = match self.rng.below(200) {
                 0 => Choice::HostRead,
                 1 => Choice::View,
                 2 => Choice::Pop,
@@ -191,11 +191,11 @@ impl Generator {
             return self.turn_after(bench, Vec::new(), choice);
         }
         let operation = flat::Operation {
-            address: self.dice.below(2) * bench.flat().data_pages * 1024,
-            count: self.dice.word(),
+            address: self.rng.below(2) * bench.flat().data_pages * 1024,
+            count: self.rng.word(),
             kind: flat::BANK_ERASE,
-            partition: self.dice.below(2),
-            info_type: self.dice.word(),
+            partition: self.rng.below(2),
+            info_type: self.rng.word(),
         };
         Turn {
             writes: Vec::new(),
@@ -223,7 +223,7 @@ impl Generator {
             }
             _ => {}
         }
-        CHOICES[self.dice.weighted(&weights)]
+        CHOICES[self.rng.weighted(&weights)]
     }
 
     /// The arguments suit the state as the writes leave it, its D above all.
@@ -239,33 +239,33 @@ impl Generator {
 
     fn call(&mut self, choice: Choice, state: &Controller, room: usize) -> Call {
         let image_words = self.image_words(state.data_pages, room);
-        let dice = &mut self.dice;
+        let rng = &mut self.rng;
         match choice {
             Choice::Reset => Call::Reset {
-                data_pages: new_data_pages(dice, state.data_pages, room),
+                data_pages: new_data_pages(rng, state.data_pages, room),
             },
             Choice::Clear => Call::ClearErrors,
             Choice::Initialise => Call::Initialise { image_words },
             Choice::Step => Call::Step { image_words },
             Choice::Push => Call::Push {
-                word: dice.flash_word(),
+                word: rng.flash_word(),
             },
             Choice::Pop => Call::Pop,
             Choice::Rma => Call::Rma { image_words },
-            _ => argued(choice, Arguments { dice, state }, image_words),
+            _ => argued(choice, Arguments { rng, state }, image_words),
         }
     }
 
     /// The right length, rarely a wrong one.
     fn image_words(&mut self, data_pages: u32, room: usize) -> usize {
         let right = model::image_words(data_pages.min(1 << 20)) as usize;
-        let words = match self.dice.below(300) {
+        let words = match self.rng.below(300) {
             0 => right.saturating_sub(1),
             1 => right + 1,
             2 => 0,
             3 => right.saturating_sub(512),
             4 => right + 512,
-            5 => self.dice.below(room as u32) as usize,
+            5 => self.rng.below(room as u32) as usize,
             _ => right,
         };
         words.min(room)
@@ -308,7 +308,7 @@ fn argued(choice: Choice, mut of: Arguments, image_words: usize) -> Call {
                 operation,
                 image_words,
                 buffer_words: of.buffer_words(&operation),
-                buffer_seed: of.dice.seed(),
+                buffer_seed: of.rng.seed(),
             }
         }
         Choice::HostRead => Call::HostRead {
@@ -325,11 +325,11 @@ fn argued(choice: Choice, mut of: Arguments, image_words: usize) -> Call {
 
 fn situation(state: Option<&Controller>) -> Situation {
     let Some(state) = state else {
-        return Situation::NotOurs;
+        return Situation::Invalid;
     };
     match (state.phase, state.in_progress) {
-        (Phase::Fresh, _) => Situation::Fresh,
-        (Phase::Shut, _) => Situation::Shut,
+        (Phase::Uninitialised, _) => Situation::Uninitialised,
+        (Phase::Disabled, _) => Situation::Disabled,
         (Phase::Ready, InProgress::Nothing) => Situation::Idle,
         (Phase::Ready, InProgress::Read { .. }) => Situation::Reading,
         (Phase::Ready, InProgress::Program { .. }) => Situation::Programming,
@@ -338,28 +338,28 @@ fn situation(state: Option<&Controller>) -> Situation {
 }
 
 /// Every D in turn; after the sweep mostly small ones.
-fn data_pages_of(dice: &mut Dice, episode: u64) -> u32 {
+fn data_pages_of(rng: &mut Rng, episode: u64) -> u32 {
     let nth = |number: u64| DATA_PAGES.start() + (number % SWEEP) as u32;
     if episode < SWEEP {
         nth(episode)
     } else if episode.is_multiple_of(EPISODES_PER_SWEPT_D) {
         nth(episode / EPISODES_PER_SWEPT_D)
     } else {
-        dice.pick(&SMALL_DATA_PAGES)
+        rng.pick(&SMALL_DATA_PAGES)
     }
 }
 
 /// A D for reset whose image fits, or a wrong one.
-fn new_data_pages(dice: &mut Dice, data_pages: u32, room: usize) -> u32 {
+fn new_data_pages(rng: &mut Rng, data_pages: u32, room: usize) -> u32 {
     let words_of_two_pages = 512;
     let fits = (room / words_of_two_pages)
         .saturating_sub(14)
         .clamp(10, 256) as u32;
-    match dice.below(10) {
-        0 => dice.pick(&[0, 9, 257, 1024, u32::MAX, 1 << 31]),
+    match rng.below(10) {
+        0 => rng.pick(&[0, 9, 257, 1024, u32::MAX, 1 << 31]),
         1 => 10,
         2 => data_pages.saturating_add(1),
-        3 => dice.between(10, fits),
+        3 => rng.between(10, fits),
         _ if DATA_PAGES.contains(&data_pages) => data_pages,
         _ => fits,
     }

@@ -1,8 +1,8 @@
 //! Long runs: episodes of many turns, each from a start of its own.
 
 use crate::bench::{Alter, Bench, Start, Turn};
-use crate::dice::Dice;
 use crate::generator::Generator;
+use crate::rng::Rng;
 use crate::situations::Met;
 use crate::table::Tally;
 use crate::watch::{watched, Watch};
@@ -55,7 +55,7 @@ fn episodes(
 }
 
 fn play(seed: u64, episode: u64, alter: Alter, tally: &mut Tally) -> Result<(), Box<Failure>> {
-    let own_seed = Dice::new(seed.wrapping_add(episode << 32)).seed();
+    let own_seed = Rng::new(seed.wrapping_add(episode << 32)).seed();
     let (mut generator, start, length) = Generator::of_episode(own_seed, episode);
     let mut bench = Bench::new(&start, alter);
     let mut turns = Vec::new();

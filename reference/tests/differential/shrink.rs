@@ -10,7 +10,7 @@ use std::time::{Duration, Instant};
 
 const TIME: Duration = Duration::from_secs(20);
 /// Past its time, shrinking can only be in a call that never ends.
-const PATIENCE: Duration = Duration::from_secs(30);
+const TIME_LIMIT: Duration = Duration::from_secs(30);
 
 /// Drops parts of a list, long ones first, as long as what is left still fails.
 pub fn shortest<T: Clone>(
@@ -97,7 +97,7 @@ pub fn told(failure: Box<Failure>, alter: Alter) -> String {
     let plain = headline(&failure);
     let (sender, receiver) = channel();
     std::thread::spawn(move || sender.send(shown(&shrunk(&failure, alter), alter)));
-    receiver.recv_timeout(PATIENCE).unwrap_or(plain)
+    receiver.recv_timeout(TIME_LIMIT).unwrap_or(plain)
 }
 
 fn headline(failure: &Failure) -> String {
@@ -130,7 +130,7 @@ fn show_start(text: &mut String, start: &Start) {
     write!(
         text,
         "  from image seed {:#x}, room for D = {}, ",
-        start.image_seed, start.shelf
+        start.image_seed, start.max_data_pages
     )
     .unwrap();
     text.push_str("the fields that are not 0:");

@@ -3,41 +3,41 @@
 
 use crate::arguments::Arguments;
 use crate::bench::{Start, Write};
-use crate::dice::Dice;
+use crate::rng::Rng;
 use reference::interface::{fields, flat};
 use reference::model::Controller;
 
-/// How far past a start's D the shelf reaches, so that reset can change D.
-const SHELF_ROOM: u32 = 2;
+/// Data pages per bank that an image has room for past its D, so that reset can change D.
+const ROOM: u32 = 2;
 
 /// Rich in most cases, else garbage or zeros.
-pub fn any(dice: &mut Dice, data_pages: u32) -> Start {
-    match dice.below(20) {
-        0 => start(dice, data_pages, garbage),
-        1 => start(dice, data_pages, |_| flat::Controller::default()),
-        _ => ours(dice, data_pages),
+pub fn any(rng: &mut Rng, data_pages: u32) -> Start {
+    match rng.below(20) {
+        0 => start(rng, data_pages, garbage),
+        1 => start(rng, data_pages, |_| flat::Controller::default()),
+        _ => valid(rng, data_pages),
     }
 }
 
-/// From a state that is ours.
-pub fn ours(dice: &mut Dice, data_pages: u32) -> Start {
-    start(dice, data_pages, |dice| rich(dice, data_pages))
+/// From a valid state.
+pub fn valid(rng: &mut Rng, data_pages: u32) -> Start {
+    start(rng, data_pages, |rng| rich(rng, data_pages))
 }
 
 fn start(
-    dice: &mut Dice,
+    rng: &mut Rng,
     data_pages: u32,
-    controller: impl FnOnce(&mut Dice) -> flat::Controller,
+    controller: impl FnOnce(&mut Rng) -> flat::Controller,
 ) -> Start {
     Start {
-        controller: controller(dice),
-        shelf: (data_pages + SHELF_ROOM).min(256),
-        image_seed: dice.seed(),
+        controller: controller(rng),
+        max_data_pages: (data_pages + ROOM).min(256),
+        image_seed: rng.seed(),
     }
 }
 
 /// Ready and with every right, to be left alone while long operations run.
-pub fn open(dice: &mut Dice, data_pages: u32) -> Start {
+pub fn all_rights(rng: &mut Rng, data_pages: u32) -> Start {
     let setting = flat::PageSetting { on: 1, rights: 7 };
     Start {
         controller: flat::Controller {
@@ -49,95 +49,95 @@ pub fn open(dice: &mut Dice, data_pages: u32) -> Start {
             bank_erase: [1, 1],
             ..flat::Controller::default()
         },
-        shelf: data_pages,
-        image_seed: dice.seed(),
+        max_data_pages: data_pages,
+        image_seed: rng.seed(),
     }
 }
 
-fn garbage(dice: &mut Dice) -> flat::Controller {
+fn garbage(rng: &mut Rng) -> flat::Controller {
     let mut c = flat::Controller::default();
     for field in fields::all() {
-        field.set(&mut c, dice.word());
+        field.set(&mut c, rng.word());
     }
     c
 }
 
-/// A state that is ours with nothing in progress: overlapping regions, mixed rights, records and read words.
-fn rich(dice: &mut Dice, data_pages: u32) -> flat::Controller {
+/// A valid state with nothing in progress: overlapping regions, mixed rights, records and read words.
+fn rich(rng: &mut Rng, data_pages: u32) -> flat::Controller {
     let mut c = flat::Controller {
         data_pages,
-        phase: dice.weighted(&[15, 80, 5]) as u32,
+        phase: rng.weighted(&[15, 80, 5]) as u32,
         ..flat::Controller::default()
     };
-    settle(dice, &mut c);
-    if dice.percent(30) {
-        c.recorded = dice.pick(&[1 << 5, 1 << 7, 1 << 8, 1 << 9, 0x3A0]);
-        c.last_address = dice.word();
+    settle(rng, &mut c);
+    if rng.percent(30) {
+        c.recorded = rng.pick(&[1 << 5, 1 << 7, 1 << 8, 1 << 9, 0x3A0]);
+        c.last_address = rng.word();
     }
-    if dice.percent(30) {
-        fill_free_places(dice, &mut c);
+    if rng.percent(30) {
+        fill_free_places(rng, &mut c);
     }
-    if c.phase == flat::PHASE_READY && dice.percent(30) {
-        c.read_queue.length = dice.below(17);
+    if c.phase == flat::PHASE_READY && rng.percent(30) {
+        c.read_queue.length = rng.below(17);
     }
     c
 }
 
 /// Random inputs and settings that pass 13.
-fn settle(dice: &mut Dice, c: &mut flat::Controller) {
-    c.provision_enabled = dice.percent(70).into();
-    c.seeds_locked = dice.percent(30).into();
-    c.default_rights = legal_rights(dice);
+fn settle(rng: &mut Rng, c: &mut flat::Controller) {
+    c.provision_enabled = rng.percent(70).into();
+    c.seeds_locked = rng.percent(30).into();
+    c.default_rights = legal_rights(rng);
     for setting in &mut c.info_pages {
-        setting.on = dice.percent(80).into();
-        setting.rights = legal_rights(dice);
+        setting.on = rng.percent(80).into();
+        setting.rights = legal_rights(rng);
     }
     for on in &mut c.bank_erase {
-        *on = dice.percent(60).into();
+        *on = rng.percent(60).into();
     }
     for number in 0..flat::REGIONS {
-        c.regions[number] = legal_region(dice, c);
+        c.regions[number] = legal_region(rng, c);
     }
 }
 
-fn legal_rights(dice: &mut Dice) -> u32 {
-    if dice.percent(50) {
+fn legal_rights(rng: &mut Rng) -> u32 {
+    if rng.percent(50) {
         7
     } else {
-        dice.below(8)
+        rng.below(8)
     }
 }
 
-fn legal_region(dice: &mut Dice, c: &flat::Controller) -> flat::Region {
-    let first_page = dice.below(2 * c.data_pages + 1);
+fn legal_region(rng: &mut Rng, c: &flat::Controller) -> flat::Region {
+    let first_page = rng.below(2 * c.data_pages + 1);
     let room = 2 * c.data_pages - first_page;
-    let page_count = match dice.below(3) {
-        0 => dice.below(room + 1),
-        _ => dice.below(room.min(5) + 1),
+    let page_count = match rng.below(3) {
+        0 => rng.below(room + 1),
+        _ => rng.below(room.min(5) + 1),
     };
     flat::Region {
         first_page,
         page_count,
-        on: dice.percent(50).into(),
-        rights: legal_rights(dice),
+        on: rng.percent(50).into(),
+        rights: legal_rights(rng),
     }
 }
 
 /// No rule looks at these.
-fn fill_free_places(dice: &mut Dice, c: &mut flat::Controller) {
+fn fill_free_places(rng: &mut Rng, c: &mut flat::Controller) {
     for queue in [&mut c.read_queue, &mut c.program_queue] {
-        queue.words = std::array::from_fn(|_| dice.word());
+        queue.words = std::array::from_fn(|_| rng.word());
     }
     c.progress = flat::Progress {
         operation: flat::Operation {
-            address: dice.word(),
-            count: dice.word(),
-            kind: dice.word(),
-            partition: dice.word(),
-            info_type: dice.word(),
+            address: rng.word(),
+            count: rng.word(),
+            kind: rng.word(),
+            partition: rng.word(),
+            info_type: rng.word(),
         },
-        moved: dice.word(),
-        readable: dice.word(),
+        moved: rng.word(),
+        readable: rng.word(),
         running: 0,
     };
 }
@@ -145,18 +145,18 @@ fn fill_free_places(dice: &mut Dice, c: &mut flat::Controller) {
 // -- writes --------------------------------------------------------------
 
 /// New inputs and settings, as a bench that builds its state by hand writes them.
-pub fn settings_written(dice: &mut Dice, c: &flat::Controller) -> Vec<Write> {
+pub fn settings_written(rng: &mut Rng, c: &flat::Controller) -> Vec<Write> {
     let mut settled = *c;
-    settle(dice, &mut settled);
+    settle(rng, &mut settled);
     writes_between(c, &settled)
 }
 
 /// The operation in progress is near its end.
-pub fn near_its_end(dice: &mut Dice, c: &flat::Controller) -> Vec<Write> {
+pub fn near_its_end(rng: &mut Rng, c: &flat::Controller) -> Vec<Write> {
     let mut near = *c;
     let words = words_to_move(c);
     let queued = c.program_queue.length;
-    let left = dice.between(1, 4).max(queued);
+    let left = rng.between(1, 4).max(queued);
     near.progress.moved = words.saturating_sub(left).max(c.progress.moved);
     writes_between(c, &near)
 }
@@ -172,20 +172,20 @@ fn words_to_move(c: &flat::Controller) -> u32 {
 }
 
 /// Some fields with other values: one alone, or several at once.
-pub fn fields_written(dice: &mut Dice, c: &flat::Controller) -> Vec<Write> {
-    let number = [1, 2, 3, 6][dice.weighted(&[70, 20, 7, 3])];
-    (0..number).map(|_| field_written(dice, c)).collect()
+pub fn fields_written(rng: &mut Rng, c: &flat::Controller) -> Vec<Write> {
+    let number = [1, 2, 3, 6][rng.weighted(&[70, 20, 7, 3])];
+    (0..number).map(|_| field_written(rng, c)).collect()
 }
 
-fn field_written(dice: &mut Dice, c: &flat::Controller) -> Write {
+fn field_written(rng: &mut Rng, c: &flat::Controller) -> Write {
     let all = fields::all();
-    let field = if dice.percent(40) {
-        let delicate = dice.pick(&DELICATE);
+    let field = if rng.percent(40) {
+        let delicate = rng.pick(&DELICATE);
         all.iter().position(|field| field.name == delicate).unwrap()
     } else {
-        dice.below(all.len() as u32) as usize
+        rng.below(all.len() as u32) as usize
     };
-    let value = other_value(dice, c, all[field].get(c));
+    let value = other_value(rng, c, all[field].get(c));
     Write { field, value }
 }
 
@@ -210,24 +210,24 @@ const DELICATE: [&str; 16] = [
 ];
 
 /// A border of some rule, a neighbour of what stands there, the same in its low bits, or anything.
-fn other_value(dice: &mut Dice, c: &flat::Controller, value: u32) -> u32 {
+fn other_value(rng: &mut Rng, c: &flat::Controller, value: u32) -> u32 {
     let d = c.data_pages;
-    match dice.below(10) {
+    match rng.below(10) {
         0 => value.wrapping_add(1),
         1 => value.wrapping_sub(1),
-        2 => value ^ 1 << dice.below(32),
-        3 => dice.word(),
-        4 => value.wrapping_add(dice.pick(&[1 << 8, 1 << 16, 1 << 24, 1 << 31])),
-        5 => dice.pick(&[d - 1, d, d + 1, 2 * d - 1, 2 * d, 2 * d + 1, d * 1024]),
-        6 => dice.pick(&[9, 10, 15, 16, 17, 255, 256, 257, 1024, 1025, u32::MAX]),
-        _ => dice.below(10),
+        2 => value ^ 1 << rng.below(32),
+        3 => rng.word(),
+        4 => value.wrapping_add(rng.pick(&[1 << 8, 1 << 16, 1 << 24, 1 << 31])),
+        5 => rng.pick(&[d - 1, d, d + 1, 2 * d - 1, 2 * d, 2 * d + 1, d * 1024]),
+        6 => rng.pick(&[9, 10, 15, 16, 17, 255, 256, 257, 1024, 1025, u32::MAX]),
+        _ => rng.below(10),
     }
 }
 
-/// An operation in progress that nobody started: some are ours, some only nearly.
-pub fn progress_written(dice: &mut Dice, c: &flat::Controller, state: &Controller) -> Vec<Write> {
+/// An operation in progress that nobody started: some are valid, some only nearly.
+pub fn progress_written(rng: &mut Rng, c: &flat::Controller, state: &Controller) -> Vec<Write> {
     let mut written = *c;
-    let operation = Arguments { dice, state }.operation();
+    let operation = Arguments { rng, state }.operation();
     written.progress = flat::Progress {
         operation,
         moved: 0,
@@ -235,24 +235,24 @@ pub fn progress_written(dice: &mut Dice, c: &flat::Controller, state: &Controlle
         running: 1,
     };
     let words = words_to_move(&written);
-    written.progress.moved = match dice.below(6) {
+    written.progress.moved = match rng.below(6) {
         0 => words,
         1 => words.wrapping_sub(1),
         2 => words.wrapping_add(1),
-        3 => dice.below(words.clamp(1, 4096)),
+        3 => rng.below(words.clamp(1, 4096)),
         _ => 0,
     };
-    written.progress.readable = match dice.below(8) {
+    written.progress.readable = match rng.below(8) {
         0 => operation.count.wrapping_sub(1),
-        1 => dice.word(),
+        1 => rng.word(),
         2..=4 => 0,
         _ => operation.count,
     };
     let left = words.wrapping_sub(written.progress.moved);
-    written.program_queue.length = match dice.below(6) {
+    written.program_queue.length = match rng.below(6) {
         0 => left,
         1 => left.wrapping_add(1),
-        2 => dice.below(18),
+        2 => rng.below(18),
         _ => 0,
     };
     writes_between(c, &written)
@@ -271,10 +271,10 @@ fn writes_between(from: &flat::Controller, to: &flat::Controller) -> Vec<Write> 
 }
 
 #[test]
-fn rich_states_are_ours() {
-    let mut dice = Dice::new(1);
+fn rich_states_are_valid() {
+    let mut rng = Rng::new(1);
     for turn in 0..2_000 {
-        let state = reference::interface::to_reference(&rich(&mut dice, 10 + turn % 247));
-        assert!(state.is_some_and(|c| reference::model::is_ours(&c)));
+        let state = reference::interface::to_reference(&rich(&mut rng, 10 + turn % 247));
+        assert!(state.is_some_and(|c| reference::model::is_valid(&c)));
     }
 }

@@ -7,7 +7,7 @@ use std::sync::Arc;
 use std::time::{Duration, Instant};
 
 /// The longest time that a worker may stay on one episode.
-const PATIENCE: Duration = Duration::from_secs(30);
+const TIME_LIMIT: Duration = Duration::from_secs(30);
 const LOOK_EVERY: Duration = Duration::from_millis(500);
 /// Where a worker is that has ended.
 const NOWHERE: u64 = u64::MAX;
@@ -52,7 +52,7 @@ impl Seen {
             if at != seen.0 {
                 *seen = (at, Instant::now());
             }
-            let hangs = at != NOWHERE && seen.1.elapsed() > PATIENCE;
+            let hangs = at != NOWHERE && seen.1.elapsed() > TIME_LIMIT;
             assert!(!hangs, "a call of episode {at} never ends");
         }
     }

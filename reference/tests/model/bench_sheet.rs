@@ -10,12 +10,12 @@ fn whole_program(c: &mut Controller, image: &mut [u32], address: u32, word: u32)
 #[test]
 fn image_of_14848_words_is_accepted_and_14847_gives_1() {
     assert_eq!(image_words(16), 14_848);
-    let accepted = initialise(&mut fresh(16), &vec![ONES; 14_848]);
+    let accepted = initialise(&mut uninitialised(16), &vec![ONES; 14_848]);
     assert_eq!(accepted.refusal, NONE);
     for wrong in [14_847, 14_849, 0] {
         assert_eq!(
-            initialise(&mut fresh(16), &vec![ONES; wrong]).refusal,
-            NOT_OURS
+            initialise(&mut uninitialised(16), &vec![ONES; wrong]).refusal,
+            INVALID
         );
     }
 }
@@ -27,18 +27,18 @@ fn image_has_59392_bytes() {
 
 #[test]
 fn d_9_gives_1() {
-    assert_eq!(reset(&mut Controller::default(), 9), NOT_OURS);
-    assert_eq!(reset(&mut Controller::default(), 257), NOT_OURS);
+    assert_eq!(reset(&mut Controller::default(), 9), INVALID);
+    assert_eq!(reset(&mut Controller::default(), 257), INVALID);
 }
 
 #[test]
 fn d_10_takes_11776_and_d_256_takes_137728() {
     for (d, words) in [(10, 11_776), (256, 137_728)] {
         assert_eq!(image_words(d), words as u64);
-        let given = |n: usize| initialise(&mut fresh(d), &vec![ONES; n]).refusal;
+        let given = |n: usize| initialise(&mut uninitialised(d), &vec![ONES; n]).refusal;
         assert_eq!(given(words), NONE);
-        assert_eq!(given(words - 1), NOT_OURS);
-        assert_eq!(given(words + 1), NOT_OURS);
+        assert_eq!(given(words - 1), INVALID);
+        assert_eq!(given(words + 1), INVALID);
     }
 }
 
@@ -63,14 +63,14 @@ fn bank_1_begins_at_bus_word_7424_byte_address_4000() {
 fn program_at_0_of_16_words_allowed_17_gives_8() {
     let c = ready();
     assert_eq!(start_answer(&c, data(PROGRAM, 0, 16)), NONE);
-    assert_eq!(start_answer(&c, data(PROGRAM, 0, 17)), WINDOW);
+    assert_eq!(start_answer(&c, data(PROGRAM, 0, 17)), CROSSES_WINDOW);
 }
 
 #[test]
 fn program_at_3c_of_1_word_allowed_2_gives_8() {
     let c = ready();
     assert_eq!(start_answer(&c, data(PROGRAM, 0x3C, 1)), NONE);
-    assert_eq!(start_answer(&c, data(PROGRAM, 0x3C, 2)), WINDOW);
+    assert_eq!(start_answer(&c, data(PROGRAM, 0x3C, 2)), CROSSES_WINDOW);
 }
 
 #[test]
@@ -89,7 +89,7 @@ fn programming_twice_leaves_12340000_with_19_and_8_bits() {
 fn read_at_7ffc_of_1_word_allowed_2_gives_7() {
     let c = ready();
     assert_eq!(start_answer(&c, data(READ, 0x7FFC, 1)), NONE);
-    assert_eq!(start_answer(&c, data(READ, 0x7FFC, 2)), OUTSIDE);
+    assert_eq!(start_answer(&c, data(READ, 0x7FFC, 2)), OUT_OF_RANGE);
 }
 
 #[test]
@@ -109,7 +109,10 @@ fn read_of_1024_words_at_0_allowed_1025_gives_5() {
 #[test]
 fn type_1_at_400_gives_7() {
     for kind in [READ, PROGRAM, PAGE_ERASE] {
-        assert_eq!(start_answer(&ready(), info(kind, 1, 0x400, 1)), OUTSIDE);
+        assert_eq!(
+            start_answer(&ready(), info(kind, 1, 0x400, 1)),
+            OUT_OF_RANGE
+        );
     }
 }
 
@@ -117,9 +120,9 @@ fn type_1_at_400_gives_7() {
 fn type_0_at_27fc_of_1_word_allowed_2_gives_7() {
     let c = ready();
     assert_eq!(start_answer(&c, info(READ, 0, 0x27FC, 1)), NONE);
-    assert_eq!(start_answer(&c, info(READ, 0, 0x27FC, 2)), OUTSIDE);
+    assert_eq!(start_answer(&c, info(READ, 0, 0x27FC, 2)), OUT_OF_RANGE);
     assert_eq!(start_answer(&c, info(PROGRAM, 0, 0x27FC, 1)), NONE);
-    assert_eq!(start_answer(&c, info(PROGRAM, 0, 0x27FC, 2)), OUTSIDE);
+    assert_eq!(start_answer(&c, info(PROGRAM, 0, 0x27FC, 2)), OUT_OF_RANGE);
 }
 
 fn two_regions() -> Controller {
@@ -207,8 +210,16 @@ fn blank_page_erased_takes_256_steps_and_0_bits() {
 }
 
 #[test]
-fn fresh_controller_kind_9_gives_3() {
-    assert_eq!(start_answer(&fresh(D), data(9, 0, 1)), STILL_FRESH);
-    let done = whole(&mut fresh(D), data(9, 0, 1), &mut erased(), &mut [0]);
-    assert_eq!(done.refusal, STILL_FRESH);
+fn uninitialised_controller_kind_9_gives_3() {
+    assert_eq!(
+        start_answer(&uninitialised(D), data(9, 0, 1)),
+        UNINITIALISED
+    );
+    let done = whole(
+        &mut uninitialised(D),
+        data(9, 0, 1),
+        &mut erased(),
+        &mut [0],
+    );
+    assert_eq!(done.refusal, UNINITIALISED);
 }

@@ -5,15 +5,15 @@ use reference::model::*;
 /// The D of a bench program.
 pub const D: u32 = 16;
 
-pub fn fresh(d: u32) -> Controller {
+pub fn uninitialised(d: u32) -> Controller {
     let mut c = Controller::default();
     assert_eq!(reset(&mut c, d), NONE);
     c
 }
 
-/// Fresh, with every right given, provision enabled and seeds not locked.
-pub fn fresh_with_all_rights(d: u32) -> Controller {
-    let mut c = fresh(d);
+/// Uninitialised, with every right given, provision enabled and seeds not locked.
+pub fn uninitialised_with_all_rights(d: u32) -> Controller {
+    let mut c = uninitialised(d);
     let all = InfoSetting {
         on: true,
         rights: ALL_RIGHTS,
@@ -33,7 +33,7 @@ pub fn fresh_with_all_rights(d: u32) -> Controller {
 
 /// Ready, with all rights given.
 pub fn ready_for(d: u32) -> Controller {
-    let mut c = fresh_with_all_rights(d);
+    let mut c = uninitialised_with_all_rights(d);
     assert_eq!(initialise(&mut c, &erased_for(d)).refusal, NONE);
     c
 }
@@ -42,7 +42,7 @@ pub fn ready() -> Controller {
     ready_for(D)
 }
 
-pub fn shut() -> Controller {
+pub fn disabled() -> Controller {
     let mut c = ready();
     assert_eq!(rma(&mut c, &mut erased()), NONE);
     c
@@ -50,7 +50,7 @@ pub fn shut() -> Controller {
 
 /// Ready, with no right at all.
 pub fn ready_without_rights() -> Controller {
-    let mut c = fresh(D);
+    let mut c = uninitialised(D);
     assert_eq!(initialise(&mut c, &erased()).refusal, NONE);
     c
 }

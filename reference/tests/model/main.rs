@@ -1,6 +1,7 @@
 //! Tests of the reference model, case by case from document 01.
 
 mod bench_sheet;
+mod common_mistakes;
 mod helpers;
 mod order_of_checks;
 mod plain_rust;
@@ -8,7 +9,6 @@ mod random_runs;
 mod refusal_table;
 mod rma_and_seeds;
 mod settings;
-mod slips;
 mod spans;
 mod states;
 mod steps;

@@ -1,5 +1,5 @@
 //! Random runs: every call answers, refused calls leave what 01 says, states
-//! stay ours, and a whole operation is the sum of its parts.
+//! stay valid, and a whole operation is the sum of its parts.
 
 use crate::helpers::*;
 use reference::model::*;
@@ -111,7 +111,10 @@ impl Dice {
         for _ in 0..1 + self.below(3) {
             match self.below(14) {
                 0 => c.data_pages = self.number(),
-                1 => c.phase = [Phase::Fresh, Phase::Ready, Phase::Shut][self.below(3) as usize],
+                1 => {
+                    c.phase = [Phase::Uninitialised, Phase::Ready, Phase::Disabled]
+                        [self.below(3) as usize]
+                }
                 2 => c.provision_enabled = self.coin(),
                 3 => c.seeds_locked = self.coin(),
                 4 => c.regions[self.below(8) as usize] = self.region(),
@@ -163,20 +166,20 @@ fn random_call(
 }
 
 #[test]
-fn long_runs_stay_ours_and_refusals_leave_what_they_should() {
+fn long_runs_stay_valid_and_refusals_leave_what_they_should() {
     let mut dice = Dice(0x1234_5678_9ABC_DEF1);
     let mut image = patterned();
-    let mut c = fresh_with_all_rights(D);
+    let mut c = uninitialised_with_all_rights(D);
     let mut buffer = vec![0; 300];
     let mut seen = [0; 14];
     for turn in 0..10_000 {
         if turn % 200 == 199 {
-            c = fresh_with_all_rights(D);
+            c = uninitialised_with_all_rights(D);
         }
         let before = (c.clone(), image.clone(), buffer.clone());
         let (refusal, records) = random_call(&mut dice, &mut c, &mut image, &mut buffer);
         seen[usize::from(refusal)] += 1;
-        assert!(is_ours(&c));
+        assert!(is_valid(&c));
         if refusal == NONE {
             continue;
         }
@@ -204,21 +207,21 @@ fn long_runs_stay_ours_and_refusals_leave_what_they_should() {
 #[test]
 fn nonsense_states_are_answered() {
     let mut dice = Dice(0xFEED_0BAD_CAFE_0001);
-    let mut ours = 0;
+    let mut valid = 0;
     for _ in 0..5_000 {
         let c = dice.controller();
-        ours += u32::from(is_ours(&c));
+        valid += u32::from(is_valid(&c));
         let mut image = vec![0x5555_5555; image_words(D) as usize];
         let mut after = c.clone();
         let (refusal, _) = random_call(&mut dice, &mut after, &mut image, &mut [0; 20]);
-        if !is_ours(&c) {
-            assert_eq!(refusal, NOT_OURS);
+        if !is_valid(&c) {
+            assert_eq!(refusal, INVALID);
             assert_eq!(after, c);
         }
         rma(&mut c.clone(), &mut image);
         reset(&mut c.clone(), dice.number());
     }
-    assert!((500..4_500).contains(&ours), "{ours} were ours");
+    assert!((500..4_500).contains(&valid), "{valid} were valid");
 }
 
 /// Runs an operation by its parts in another rhythm than the whole call:
@@ -256,7 +259,7 @@ fn by_parts(
 fn a_whole_operation_is_the_sum_of_its_parts() {
     let mut dice = Dice(0x00DD_BA11_5EED);
     for _ in 0..300 {
-        let mut c = fresh_with_all_rights(D);
+        let mut c = uninitialised_with_all_rights(D);
         set_inputs(&mut c, dice.coin(), dice.coin());
         for number in 0..8 {
             set_region(&mut c, number, dice.region());

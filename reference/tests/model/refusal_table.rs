@@ -26,7 +26,7 @@ fn row_1_wrong_d_for_reset_hands_the_state_back() {
     for d in [0, 1, 9, 257, u32::MAX] {
         for mut c in [
             ready(),
-            shut(),
+            disabled(),
             started(data(READ, 0, 9)),
             Controller::default(),
         ] {
@@ -40,7 +40,7 @@ fn reset_takes_any_state() {
     let mut broken = started(data(PROGRAM, 0, 2));
     broken.program_queue.length = 999;
     broken.recorded = ONES;
-    for mut c in [ready(), shut(), broken, Controller::default()] {
+    for mut c in [ready(), disabled(), broken, Controller::default()] {
         for d in [10, 16, 255, 256] {
             assert_eq!(reset(&mut c, d), NONE);
             let expected = Controller {
@@ -48,14 +48,14 @@ fn reset_takes_any_state() {
                 ..Controller::default()
             };
             assert_eq!(c, expected);
-            assert_eq!(c.phase, Phase::Fresh);
+            assert_eq!(c.phase, Phase::Uninitialised);
         }
     }
 }
 
 #[test]
-fn row_2_shut() {
-    let mut c = shut();
+fn row_2_disabled() {
+    let mut c = disabled();
     let mut image = patterned();
     let read = data(READ, 0, 1);
     assert_refused(&mut c, &mut image, 2, |c, _| start(c, read));
@@ -71,8 +71,8 @@ fn row_2_shut() {
 }
 
 #[test]
-fn row_3_still_fresh() {
-    let mut c = fresh_with_all_rights(D);
+fn row_3_uninitialised() {
+    let mut c = uninitialised_with_all_rights(D);
     let mut image = patterned();
     let read = data(READ, 0, 1);
     assert_refused(&mut c, &mut image, 3, |c, _| start(c, read));
@@ -199,7 +199,7 @@ fn row_6_erases_need_no_buffer() {
 }
 
 #[test]
-fn row_7_outside_is_recorded() {
+fn row_7_out_of_range_is_recorded() {
     let mut c = ready();
     for kind in 0..4 {
         assert_start_recorded(&mut c, data(kind, 0x8000, 1), 7);
@@ -271,7 +271,12 @@ fn rows_5_to_9_add_up_and_the_last_address_stays() {
 #[test]
 fn row_10_pop_of_an_empty_queue() {
     let mut image = vec![];
-    for mut c in [fresh(D), ready(), shut(), started(data(READ, 0, 2))] {
+    for mut c in [
+        uninitialised(D),
+        ready(),
+        disabled(),
+        started(data(READ, 0, 2)),
+    ] {
         assert_refused(&mut c, &mut image, 10, |c, _| {
             let given = pop(c);
             assert_eq!(given.word, 0);
@@ -291,7 +296,7 @@ fn row_11_a_full_queue_is_always_reached_with_n_pushed_so_12_comes_first() {
 }
 
 #[test]
-fn row_12_out_of_turn() {
+fn row_12_unexpected() {
     let mut image = patterned();
     let mut c = ready();
     assert_refused(&mut c, &mut image, 12, |c, i| step(c, i).refusal);
@@ -311,7 +316,7 @@ fn row_13_settings() {
         rights: 7,
     };
     let mut image = vec![];
-    for mut c in [fresh(D), ready(), shut()] {
+    for mut c in [uninitialised(D), ready(), disabled()] {
         let mut refused = |call: &dyn Fn(&mut Controller) -> u8| {
             assert_refused(&mut c, &mut image, 13, |c, _| call(c))
         };
@@ -354,9 +359,9 @@ fn row_13_settings() {
 
 #[test]
 fn a_refusal_gives_no_word_no_bits_and_no_seeds() {
-    let mut c = fresh_with_all_rights(D);
+    let mut c = uninitialised_with_all_rights(D);
     let image = &mut patterned()[1..].to_vec();
-    let refusal = NOT_OURS;
+    let refusal = INVALID;
     assert_eq!(
         initialise(&mut c, image),
         Initialised {

@@ -1,4 +1,4 @@
-//! Initialise with its seeds; RMA with its wipe and shutdown.
+//! Initialise with its seeds; RMA with its wipe and disabling.
 
 use crate::helpers::*;
 use reference::model::*;
@@ -10,7 +10,7 @@ fn seeds_at(place: u32) -> [u32; 8] {
 #[test]
 fn initialise_hands_out_the_first_8_words_of_each_seed_page() {
     for d in [10, 16, 256] {
-        let mut c = fresh(d);
+        let mut c = uninitialised(d);
         assert_eq!(set_inputs(&mut c, true, false), NONE);
         let given = initialise(&mut c, &patterned_for(d));
         assert_eq!(given.refusal, NONE);
@@ -22,7 +22,7 @@ fn initialise_hands_out_the_first_8_words_of_each_seed_page() {
 
 #[test]
 fn initialise_hands_out_seeds_even_if_locked() {
-    let mut c = fresh(D);
+    let mut c = uninitialised(D);
     assert_eq!(set_inputs(&mut c, true, true), NONE);
     let given = initialise(&mut c, &patterned());
     assert!(given.seeds_given);
@@ -32,7 +32,7 @@ fn initialise_hands_out_seeds_even_if_locked() {
 #[test]
 fn initialise_hands_out_none_without_provision() {
     for locked in [false, true] {
-        let mut c = fresh(D);
+        let mut c = uninitialised(D);
         assert_eq!(set_inputs(&mut c, false, locked), NONE);
         assert_eq!(initialise(&mut c, &patterned()), Initialised::default());
         assert_eq!(c.phase, Phase::Ready);
@@ -41,7 +41,7 @@ fn initialise_hands_out_none_without_provision() {
 
 #[test]
 fn initialise_changes_the_phase_only() {
-    let mut c = fresh_with_all_rights(D);
+    let mut c = uninitialised_with_all_rights(D);
     let mut expected = c.clone();
     expected.phase = Phase::Ready;
     initialise(&mut c, &patterned());
@@ -65,7 +65,7 @@ fn assert_wiped(image: &[u32], d: usize) {
 #[test]
 fn rma_wipes_data_and_special_pages_and_keeps_the_others() {
     for d in [10, 16, 256] {
-        for mut c in [fresh(d), ready_for(d)] {
+        for mut c in [uninitialised(d), ready_for(d)] {
             let mut image = patterned_for(d);
             assert_eq!(rma(&mut c, &mut image), NONE);
             assert_wiped(&image, d as usize);
@@ -81,7 +81,7 @@ fn rma_does_not_ask_for_rights() {
 }
 
 #[test]
-fn rma_empties_the_queues_shuts_and_keeps_the_rest() {
+fn rma_empties_the_queues_disables_and_keeps_the_rest() {
     let mut c = ready();
     assert_eq!(start(&mut c, data(9, 0x30, 1)), MALFORMED);
     assert_eq!(start(&mut c, data(READ, 0, 3)), NONE);
@@ -89,7 +89,7 @@ fn rma_empties_the_queues_shuts_and_keeps_the_rest() {
     assert_eq!(c.read_queue.length, 3);
     let mut expected = c.clone();
     expected.read_queue = Queue::default();
-    expected.phase = Phase::Shut;
+    expected.phase = Phase::Disabled;
     assert_eq!(rma(&mut c, &mut patterned()), NONE);
     assert_eq!(c, expected);
     assert_eq!((c.recorded, c.last_address), (kinds(&[5]), 0x30));
@@ -97,13 +97,13 @@ fn rma_empties_the_queues_shuts_and_keeps_the_rest() {
 }
 
 #[test]
-fn shut_lasts_until_reset() {
-    let mut c = shut();
-    assert_eq!(initialise(&mut c, &erased()).refusal, SHUT);
+fn disabled_lasts_until_reset() {
+    let mut c = disabled();
+    assert_eq!(initialise(&mut c, &erased()).refusal, DISABLED);
     assert_eq!(set_default_rights(&mut c, 1), NONE);
     assert_eq!(set_inputs(&mut c, false, true), NONE);
     assert_eq!(clear(&mut c), NONE);
-    assert_eq!(c.phase, Phase::Shut);
+    assert_eq!(c.phase, Phase::Disabled);
     assert_eq!(reset(&mut c, D), NONE);
     assert_eq!(initialise(&mut c, &erased()).refusal, NONE);
 }

@@ -10,7 +10,7 @@ const ON: InfoSetting = InfoSetting {
 
 #[test]
 fn each_setting_changes_its_own_field_only() {
-    for start in [fresh(D), ready(), shut()] {
+    for start in [uninitialised(D), ready(), disabled()] {
         let mut c = start.clone();
         let mut expected = start.clone();
         assert_eq!(set_inputs(&mut c, false, true), NONE);
@@ -35,7 +35,7 @@ fn the_26_information_settings_are_in_bank_and_type_order() {
     for bank in 0..2 {
         for (info_type, pages) in [(0, 10), (1, 1), (2, 2)] {
             for page in 0..pages {
-                let mut c = fresh(D);
+                let mut c = uninitialised(D);
                 let mut expected = c.clone();
                 assert_eq!(set_info_page(&mut c, bank, info_type, page, ON), NONE);
                 expected.info_settings[place] = ON;

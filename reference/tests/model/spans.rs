@@ -46,7 +46,7 @@ fn a_read_over_the_border_is_judged_by_the_pages_of_both_banks() {
 fn a_program_before_the_bank_border_may_not_cross_it() {
     let c = ready();
     assert_eq!(start_answer(&c, data(PROGRAM, 0x3FC0, 16)), NONE);
-    assert_eq!(start_answer(&c, data(PROGRAM, 0x3FFC, 2)), WINDOW);
+    assert_eq!(start_answer(&c, data(PROGRAM, 0x3FFC, 2)), CROSSES_WINDOW);
 }
 
 #[test]
@@ -69,12 +69,12 @@ fn information_spans_end_with_their_type_in_both_banks() {
             let end = bank + pages * 1024;
             let answer = |op| start_answer(&ready(), op);
             assert_eq!(answer(info(READ, info_type, end - 4, 1)), NONE);
-            assert_eq!(answer(info(READ, info_type, end - 4, 2)), OUTSIDE);
-            assert_eq!(answer(info(PROGRAM, info_type, end - 4, 2)), OUTSIDE);
-            assert_eq!(answer(info(READ, info_type, end, 1)), OUTSIDE);
-            assert_eq!(answer(info(PROGRAM, info_type, end, 1)), OUTSIDE);
+            assert_eq!(answer(info(READ, info_type, end - 4, 2)), OUT_OF_RANGE);
+            assert_eq!(answer(info(PROGRAM, info_type, end - 4, 2)), OUT_OF_RANGE);
+            assert_eq!(answer(info(READ, info_type, end, 1)), OUT_OF_RANGE);
+            assert_eq!(answer(info(PROGRAM, info_type, end, 1)), OUT_OF_RANGE);
             assert_eq!(answer(info(PAGE_ERASE, info_type, end - 4, 9)), NONE);
-            assert_eq!(answer(info(PAGE_ERASE, info_type, end, 9)), OUTSIDE);
+            assert_eq!(answer(info(PAGE_ERASE, info_type, end, 9)), OUT_OF_RANGE);
         }
     }
 }
@@ -91,10 +91,10 @@ fn with_d_10_an_information_span_may_not_run_into_the_next_bank() {
     // Type 0 fills the bank's addresses: the next page number is bank 1's 0.
     let c = ready_for(10);
     assert_eq!(start_answer(&c, info(READ, 0, 0x27FC, 1)), NONE);
-    assert_eq!(start_answer(&c, info(READ, 0, 0x27FC, 2)), OUTSIDE);
+    assert_eq!(start_answer(&c, info(READ, 0, 0x27FC, 2)), OUT_OF_RANGE);
     assert_eq!(start_answer(&c, info(READ, 0, 0x2800, 2)), NONE);
     assert_eq!(start_answer(&c, info(READ, 0, 0x4FFC, 1)), NONE);
-    assert_eq!(start_answer(&c, info(READ, 0, 0x4FFC, 2)), OUTSIDE);
+    assert_eq!(start_answer(&c, info(READ, 0, 0x4FFC, 2)), OUT_OF_RANGE);
 }
 
 #[test]
@@ -105,7 +105,7 @@ fn a_bank_erase_has_only_the_address_bound() {
         let at = |address| operation(BANK_ERASE, partition, 255, address, u32::MAX);
         assert_eq!(start_answer(&c, at(15 * 1024)), NONE);
         assert_eq!(start_answer(&c, at(0x7FFC)), NONE);
-        assert_eq!(start_answer(&c, at(0x8000)), OUTSIDE);
+        assert_eq!(start_answer(&c, at(0x8000)), OUT_OF_RANGE);
     }
 }
 
@@ -114,8 +114,11 @@ fn addresses_near_the_top_do_not_wrap() {
     let c = ready();
     for address in [0x8000, 0xFFFF_FFF8, 0xFFFF_FFFC] {
         for kind in 0..4 {
-            assert_eq!(start_answer(&c, data(kind, address, 1_024)), OUTSIDE);
-            assert_eq!(start_answer(&c, info(kind, 0, address, 1_024)), OUTSIDE);
+            assert_eq!(start_answer(&c, data(kind, address, 1_024)), OUT_OF_RANGE);
+            assert_eq!(
+                start_answer(&c, info(kind, 0, address, 1_024)),
+                OUT_OF_RANGE
+            );
         }
     }
 }
@@ -124,7 +127,7 @@ fn addresses_near_the_top_do_not_wrap() {
 fn a_data_span_may_end_with_the_last_page() {
     let c = ready();
     assert_eq!(start_answer(&c, data(READ, 0x7000, 1_024)), NONE);
-    assert_eq!(start_answer(&c, data(READ, 0x7004, 1_024)), OUTSIDE);
+    assert_eq!(start_answer(&c, data(READ, 0x7004, 1_024)), OUT_OF_RANGE);
 }
 
 #[test]

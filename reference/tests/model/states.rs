@@ -1,16 +1,17 @@
-//! "A state is ours exactly if ...": each clause, on both sides of its border.
+//! Validity of a state (01: "a state is ours exactly if .."): each clause, on
+//! both sides of its border.
 
 use crate::helpers::*;
 use reference::model::*;
 
 /// Every call gives 1 and leaves all unchanged; reset alone still works.
 fn assert_broken(c: &Controller) {
-    assert!(!is_ours(c), "{c:?}");
+    assert!(!is_valid(c), "{c:?}");
     let mut c = c.clone();
     let mut image = vec![0; image_words(c.data_pages.min(256)) as usize];
     let read = data(READ, 0, 1);
     let mut refused = |call: &dyn Fn(&mut Controller, &mut [u32]) -> u8| {
-        assert_refused(&mut c, &mut image, NOT_OURS, |c, i| call(c, i));
+        assert_refused(&mut c, &mut image, INVALID, |c, i| call(c, i));
     };
     refused(&|c, _| set_inputs(c, true, false));
     refused(&|c, _| set_region(c, 0, Region::default()));
@@ -28,11 +29,11 @@ fn assert_broken(c: &Controller) {
     refused(&|c, _| clear(c));
     refused(&|c, i| rma(c, i));
     assert_eq!(reset(&mut c, D), NONE);
-    assert_eq!(c, fresh(D));
+    assert_eq!(c, uninitialised(D));
 }
 
-fn assert_ours(c: &Controller) {
-    assert!(is_ours(c), "{c:?}");
+fn assert_valid(c: &Controller) {
+    assert!(is_valid(c), "{c:?}");
     assert_eq!(clear(&mut c.clone()), NONE);
 }
 
@@ -51,11 +52,11 @@ fn queue_of(length: u32) -> Queue {
 #[test]
 fn d_is_10_to_256() {
     for d in [0, 1, 9, 257, 1 << 31, u32::MAX] {
-        assert_broken(&changed(fresh(D), |c| c.data_pages = d));
+        assert_broken(&changed(uninitialised(D), |c| c.data_pages = d));
         assert_broken(&changed(started(data(READ, 0, 2)), |c| c.data_pages = d));
     }
     for d in [10, 256] {
-        assert_ours(&changed(fresh(D), |c| c.data_pages = d));
+        assert_valid(&changed(uninitialised(D), |c| c.data_pages = d));
     }
 }
 
@@ -69,7 +70,7 @@ fn settings_pass_13_even_if_off() {
     for on in [false, true] {
         for number in 0..8 {
             let with = |first_page, page_count, rights| {
-                changed(fresh(D), |c| {
+                changed(uninitialised(D), |c| {
                     c.regions[number] = Region {
                         on,
                         first_page,
@@ -78,8 +79,8 @@ fn settings_pass_13_even_if_off() {
                     }
                 })
             };
-            assert_ours(&with(0, 32, 7));
-            assert_ours(&with(32, 0, 0));
+            assert_valid(&with(0, 32, 7));
+            assert_valid(&with(32, 0, 0));
             assert_broken(&with(0, 33, 7));
             assert_broken(&with(32, 1, 7));
             assert_broken(&with(33, 0, 7));
@@ -88,16 +89,16 @@ fn settings_pass_13_even_if_off() {
         }
         for page in 0..26 {
             let with = |rights| {
-                changed(fresh(D), |c| {
+                changed(uninitialised(D), |c| {
                     c.info_settings[page] = InfoSetting { on, rights }
                 })
             };
-            assert_ours(&with(7));
+            assert_valid(&with(7));
             assert_broken(&with(8));
         }
     }
-    assert_ours(&changed(shut(), |c| c.default_rights = 7));
-    assert_broken(&changed(shut(), |c| c.default_rights = 8));
+    assert_valid(&changed(disabled(), |c| c.default_rights = 7));
+    assert_broken(&changed(disabled(), |c| c.default_rights = 8));
 }
 
 #[test]
@@ -105,7 +106,7 @@ fn recorded_kinds_are_among_5_7_8_9() {
     for kind in 0..32 {
         let c = changed(ready(), |c| c.recorded = 1 << kind);
         if [5, 7, 8, 9].contains(&kind) {
-            assert_ours(&c);
+            assert_valid(&c);
         } else {
             assert_broken(&c);
             assert_broken(&changed(c, |c| c.recorded |= kinds(&[5])));
@@ -118,14 +119,14 @@ fn the_last_address_is_0_if_no_kind_is_recorded() {
     assert_broken(&changed(ready(), |c| c.last_address = 1));
     let with_kind = changed(ready(), |c| c.recorded = kinds(&[8]));
     for address in [0, 3, u32::MAX] {
-        assert_ours(&changed(with_kind.clone(), |c| c.last_address = address));
+        assert_valid(&changed(with_kind.clone(), |c| c.last_address = address));
     }
 }
 
 #[test]
 fn records_may_stand_in_any_phase() {
-    for c in [fresh(D), ready(), shut()] {
-        assert_ours(&changed(c, |c| {
+    for c in [uninitialised(D), ready(), disabled()] {
+        assert_valid(&changed(c, |c| {
             c.recorded = kinds(&[5, 9]);
             c.last_address = 77;
         }));
@@ -134,7 +135,7 @@ fn records_may_stand_in_any_phase() {
 
 #[test]
 fn queues_hold_at_most_16_words() {
-    assert_ours(&changed(ready(), |c| c.read_queue = queue_of(16)));
+    assert_valid(&changed(ready(), |c| c.read_queue = queue_of(16)));
     for length in [17, 18, u32::MAX] {
         assert_broken(&changed(ready(), |c| c.read_queue = queue_of(length)));
         assert_broken(&changed(ready(), |c| c.program_queue = queue_of(length)));
@@ -145,11 +146,11 @@ fn queues_hold_at_most_16_words() {
 
 #[test]
 fn queues_hold_none_unless_ready() {
-    for c in [fresh(D), shut()] {
+    for c in [uninitialised(D), disabled()] {
         assert_broken(&changed(c.clone(), |c| c.read_queue = queue_of(1)));
         assert_broken(&changed(c.clone(), |c| c.program_queue = queue_of(1)));
         // Places past the length are not looked at.
-        assert_ours(&changed(c, |c| c.read_queue = queue_of(0)));
+        assert_valid(&changed(c, |c| c.read_queue = queue_of(0)));
     }
 }
 
@@ -160,7 +161,7 @@ fn the_program_queue_is_empty_with_no_program_in_progress() {
         started(data(READ, 0, 4)),
         started(data(PAGE_ERASE, 0, 4)),
     ] {
-        assert_ours(&changed(c.clone(), |c| c.read_queue = queue_of(9)));
+        assert_valid(&changed(c.clone(), |c| c.read_queue = queue_of(9)));
         assert_broken(&changed(c, |c| c.program_queue = queue_of(1)));
     }
 }
@@ -172,7 +173,7 @@ fn an_operation_is_in_progress_only_when_ready() {
         data(PROGRAM, 0, 4),
         data(PAGE_ERASE, 0, 4),
     ] {
-        for phase in [Phase::Fresh, Phase::Shut] {
+        for phase in [Phase::Uninitialised, Phase::Disabled] {
             assert_broken(&changed(started(op), |c| c.phase = phase));
         }
     }
@@ -204,11 +205,11 @@ fn with_erase(operation: Operation, moved: u32) -> Controller {
 #[test]
 fn an_operation_in_progress_has_words_left_to_move() {
     let read = data(READ, 0, 4);
-    assert_ours(&with_read(read, 3, 4));
+    assert_valid(&with_read(read, 3, 4));
     assert_broken(&with_read(read, 4, 4));
     assert_broken(&with_read(read, u32::MAX, 4));
     let program = data(PROGRAM, 0, 4);
-    assert_ours(&with_program(program, 3, 0));
+    assert_valid(&with_program(program, 3, 0));
     assert_broken(&with_program(program, 4, 0));
     assert_broken(&with_program(program, u32::MAX, 1));
     for (erase, words) in [
@@ -217,7 +218,7 @@ fn an_operation_in_progress_has_words_left_to_move() {
         (data(BANK_ERASE, 0, 4), 4_096),
         (info(BANK_ERASE, 0, 0, 4), 7_424),
     ] {
-        assert_ours(&with_erase(erase, words - 1));
+        assert_valid(&with_erase(erase, words - 1));
         assert_broken(&with_erase(erase, words));
         assert_broken(&with_erase(erase, u32::MAX));
     }
@@ -257,11 +258,11 @@ fn an_operation_in_progress_passes_5() {
     for kind in [PAGE_ERASE, BANK_ERASE] {
         assert_broken(&with_erase(operation(kind, 2, 0, 0, 4), 0));
         assert_broken(&with_erase(data(kind, 1, 4), 0));
-        assert_ours(&with_erase(operation(kind, DATA, 255, 0, 0), 0));
-        assert_ours(&with_erase(info(kind, 2, 0, u32::MAX), 0));
+        assert_valid(&with_erase(operation(kind, DATA, 255, 0, 0), 0));
+        assert_valid(&with_erase(info(kind, 2, 0, u32::MAX), 0));
     }
     assert_broken(&with_erase(info(PAGE_ERASE, 3, 0, 0), 0));
-    assert_ours(&with_erase(info(BANK_ERASE, 3, 0, 0), 0));
+    assert_valid(&with_erase(info(BANK_ERASE, 3, 0, 0), 0));
 }
 
 #[test]
@@ -283,7 +284,7 @@ fn an_operation_in_progress_passes_7_and_8() {
     assert_broken(&with_program(data(PROGRAM, 0x3C, 2), 0, 0));
     assert_broken(&with_erase(info(PAGE_ERASE, 0, 0x2800, 0), 0));
     assert_broken(&with_erase(data(BANK_ERASE, 0x8000, 0), 0));
-    assert_ours(&with_erase(info(BANK_ERASE, 0, 0x2800, 0), 0));
+    assert_valid(&with_erase(info(BANK_ERASE, 0, 0x2800, 0), 0));
 }
 
 #[test]
@@ -295,10 +296,10 @@ fn an_operation_in_progress_passes_9_and_a_denied_read_is_blank() {
         })
     };
     let read = data(READ, 0, 4);
-    assert_ours(&with_read(read, 1, 4));
+    assert_valid(&with_read(read, 1, 4));
     assert_broken(&with_read(read, 1, 0));
     assert_broken(&without_rights(with_read(read, 1, 4)));
-    assert_ours(&without_rights(with_read(read, 1, 0)));
+    assert_valid(&without_rights(with_read(read, 1, 0)));
     for readable in [1, 3, 5, u32::MAX] {
         assert_broken(&with_read(read, 1, readable));
         assert_broken(&without_rights(with_read(read, 1, readable)));
@@ -311,18 +312,18 @@ fn an_operation_in_progress_passes_9_and_a_denied_read_is_blank() {
 #[test]
 fn at_most_n_words_are_pushed() {
     let program = data(PROGRAM, 0, 6);
-    assert_ours(&with_program(program, 0, 6));
-    assert_ours(&with_program(program, 2, 4));
+    assert_valid(&with_program(program, 0, 6));
+    assert_valid(&with_program(program, 2, 4));
     assert_broken(&with_program(program, 0, 7));
     assert_broken(&with_program(program, 2, 5));
     assert_broken(&with_program(program, 5, u32::MAX));
-    assert_ours(&with_program(data(PROGRAM, 0, 16), 0, 16));
+    assert_valid(&with_program(data(PROGRAM, 0, 16), 0, 16));
 }
 
 #[test]
 fn the_read_queue_is_not_tied_to_the_words_moved() {
     let c = with_read(data(READ, 0, 20), 2, 20);
     for length in [0, 1, 2, 3, 16] {
-        assert_ours(&changed(c.clone(), |c| c.read_queue = queue_of(length)));
+        assert_valid(&changed(c.clone(), |c| c.read_queue = queue_of(length)));
     }
 }

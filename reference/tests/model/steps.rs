@@ -130,7 +130,7 @@ fn no_more_than_n_words_are_pushed_moved_ones_included() {
     assert_eq!(push(&mut c, 1), NONE);
     step(&mut c, &mut image);
     assert_eq!(push(&mut c, 2), NONE);
-    assert_refused(&mut c, &mut image, OUT_OF_TURN, |c, _| push(c, 3));
+    assert_refused(&mut c, &mut image, UNEXPECTED, |c, _| push(c, 3));
 }
 
 #[test]

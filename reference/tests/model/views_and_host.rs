@@ -27,8 +27,8 @@ fn host_read_refusals_give_word_0_and_are_not_recorded() {
     for (address, refusal) in [
         (2, MALFORMED),
         (0x7FFD, MALFORMED),
-        (0x8000, OUTSIDE),
-        (0xFFFF_FFFC, OUTSIDE),
+        (0x8000, OUT_OF_RANGE),
+        (0xFFFF_FFFC, OUT_OF_RANGE),
         (0x800, DENIED),
         (0xBFC, DENIED),
     ] {
@@ -95,7 +95,7 @@ fn a_view_is_the_pages_own_256_words() {
             assert_eq!(view(&c, &image, page), expected);
         }
         let empty = View {
-            refusal: OUTSIDE,
+            refusal: OUT_OF_RANGE,
             start: 0,
             length: 0,
         };

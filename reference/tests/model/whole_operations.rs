@@ -98,8 +98,8 @@ fn refused_whole_operations_move_no_flash_and_leave_the_buffer() {
     for (op, refusal) in [
         (data(77, 4, 1), MALFORMED),
         (data(READ, 2, 1), MALFORMED),
-        (data(READ, 0x8000, 1), OUTSIDE),
-        (data(PROGRAM, 0x3C, 2), WINDOW),
+        (data(READ, 0x8000, 1), OUT_OF_RANGE),
+        (data(PROGRAM, 0x3C, 2), CROSSES_WINDOW),
         (data(PROGRAM, 0x3C, 1), DENIED),
         (data(PAGE_ERASE, 0x3C, 1), DENIED),
         (info(BANK_ERASE, 0, 0x3C, 1), DENIED),

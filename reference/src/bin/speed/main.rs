@@ -10,7 +10,7 @@ use programs::{Model, Plain, Second};
 use reference::interface::from_reference;
 use reference::model::{self, Controller, ALL_RIGHTS, BANKS};
 use std::time::{Duration, Instant};
-use work::{assert_all_done, lent, rows, timed, Left, Per, Work};
+use work::{assert_all_done, memory, rows, timed, Left, Per, Work};
 
 /// A row's rounds: so many at least, and until so much time has passed.
 const ROUNDS: usize = 7;
@@ -60,13 +60,13 @@ fn ready(data_pages: u32, image: &[u32]) -> Controller {
 
 /// One round: all programs from the same start, and all they leave compared.
 fn round(work: &Work, number: usize) -> [Duration; PROGRAMS] {
-    let lent = lent(work);
-    let controller = ready(work.data_pages, &lent.image);
+    let memory = memory(work);
+    let controller = ready(work.data_pages, &memory.image);
     let run = |program| -> (Duration, Left) {
         match program {
-            0 => timed(Model(from_reference(&controller)), work, &lent),
-            1 => timed(Second(controller.clone()), work, &lent),
-            _ => timed(Plain(controller.clone()), work, &lent),
+            0 => timed(Model(from_reference(&controller)), work, &memory),
+            1 => timed(Second(controller.clone()), work, &memory),
+            _ => timed(Plain(controller.clone()), work, &memory),
         }
     };
     let mut times = [Duration::ZERO; PROGRAMS];

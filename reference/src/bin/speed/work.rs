@@ -129,7 +129,7 @@ pub fn rows() -> Vec<Work> {
 
 /// Every operation has its own part of the buffer.
 #[derive(Clone, PartialEq)]
-pub struct Lent {
+pub struct Memory {
     pub image: Vec<u32>,
     buffer: Vec<u32>,
 }
@@ -138,7 +138,7 @@ pub struct Lent {
 type Fill = fn(u32) -> u32;
 
 /// As the notes say it stands before a round.
-pub fn lent(work: &Work) -> Lent {
+pub fn memory(work: &Work) -> Memory {
     let (flash, buffered): (Fill, Fill) = match work.operation.kind {
         READ => (mixed, |_| 0),
         PROGRAM => (|_| ONES, mixed),
@@ -146,7 +146,7 @@ pub fn lent(work: &Work) -> Lent {
     };
     let image_words = model::image_words(work.data_pages) as u32;
     let buffer_words = work.operation.count * work.addresses().len() as u32;
-    Lent {
+    Memory {
         image: (0..image_words).map(flash).collect(),
         buffer: (0..buffer_words).map(buffered).collect(),
     }
@@ -226,23 +226,23 @@ fn host_read(program: &impl Program, address: u32, image: &[u32], buffer: &mut [
 #[derive(PartialEq)]
 pub struct Left {
     pub told: Vec<Told>,
-    lent: Lent,
+    memory: Memory,
     state: flat::Controller,
 }
 
 /// The time of the operations alone; what they need is made ready before, and
 /// they are done once untimed, so that every program's code is warm.
-pub fn timed(program: impl Program, work: &Work, lent: &Lent) -> (Duration, Left) {
-    done(program.clone(), work, lent.clone());
-    done(program, work, lent.clone())
+pub fn timed(program: impl Program, work: &Work, memory: &Memory) -> (Duration, Left) {
+    done(program.clone(), work, memory.clone());
+    done(program, work, memory.clone())
 }
 
-fn done(mut program: impl Program, work: &Work, mut lent: Lent) -> (Duration, Left) {
+fn done(mut program: impl Program, work: &Work, mut memory: Memory) -> (Duration, Left) {
     let words = work.words();
     let addresses = work.addresses();
     let mut told = Vec::with_capacity(addresses.len());
-    let image = &mut lent.image[..];
-    let mut unused = &mut lent.buffer[..];
+    let image = &mut memory.image[..];
+    let mut unused = &mut memory.buffer[..];
     let begun = Instant::now();
     for address in addresses {
         let operation = Operation {
@@ -259,7 +259,14 @@ fn done(mut program: impl Program, work: &Work, mut lent: Lent) -> (Duration, Le
     }
     let time = begun.elapsed();
     let state = program.state();
-    (time, Left { told, lent, state })
+    (
+        time,
+        Left {
+            told,
+            memory,
+            state,
+        },
+    )
 }
 
 /// Nothing was refused, parts finished with the last word, and an erase of zeros changed every bit.

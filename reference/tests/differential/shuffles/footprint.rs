@@ -22,18 +22,18 @@ fn spares(writer: &Footprint, other: &Footprint) -> bool {
 
 /// Only an operation that starts touches pages, and a blank read touches none: both answer other than 0.
 pub fn footprint(data_pages: u32, items: &[Item], ended: &Ended) -> Footprint {
-    let mut foot = Footprint::default();
+    let mut footprint = Footprint::default();
     for (item, given) in items.iter().zip(&ended.given) {
         if given.answer == 0 {
             let touched = pages_of(data_pages, &item.operation);
             let pages = match item.operation.kind {
-                flat::READ => &mut foot.read,
-                _ => &mut foot.written,
+                flat::READ => &mut footprint.read,
+                _ => &mut footprint.written,
             };
             pages.extend(touched);
         }
     }
-    foot
+    footprint
 }
 
 /// The image's pages with one of an operation's words.

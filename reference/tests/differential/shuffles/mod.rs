@@ -57,19 +57,21 @@ fn claim(beginning: &Beginning, shuffle: &[Item]) -> Option<Result<bool, String>
     let [left, right] = [List::Left, List::Right].map(|list| of(shuffle, list));
     let alone = [&left, &right].map(|items| on_second(beginning, items));
     let data_pages = beginning.controller.data_pages;
-    let feet = [
+    let footprints = [
         footprint(data_pages, &left, &alone[0]),
         footprint(data_pages, &right, &alone[1]),
     ];
-    if !keep_apart(&feet[0], &feet[1]) {
+    if !keep_apart(&footprints[0], &footprints[1]) {
         return None;
     }
-    let wrote = feet.iter().all(|foot| !foot.written.is_empty());
+    let wrote = footprints
+        .iter()
+        .all(|footprint| !footprint.written.is_empty());
     let shuffled = on_model(beginning, shuffle);
     let holds = check_alone(beginning, &left, &alone[0])
         .and_then(|()| check_alone(beginning, &right, &alone[1]))
         .and_then(|()| check_given(shuffle, &shuffled, &alone))
-        .and_then(|()| check_end(beginning, &shuffled, &alone, &feet));
+        .and_then(|()| check_end(beginning, &shuffled, &alone, &footprints));
     Some(holds.map(|()| wrote))
 }
 
@@ -107,11 +109,11 @@ fn check_end(
     beginning: &Beginning,
     shuffled: &Ended,
     alone: &[Ended; 2],
-    feet: &[Footprint; 2],
+    footprints: &[Footprint; 2],
 ) -> Result<(), String> {
     let mut image = beginning.image.clone();
-    for (ended, foot) in alone.iter().zip(feet) {
-        for page in &foot.written {
+    for (ended, footprint) in alone.iter().zip(footprints) {
+        for page in &footprint.written {
             let words = page * PAGE_WORDS..(page + 1) * PAGE_WORDS;
             image[words.clone()].copy_from_slice(&ended.image[words]);
         }
@@ -254,7 +256,7 @@ fn a_wrong_end_is_told() {
     ];
     let [left, right] = [List::Left, List::Right].map(|list| of(&shuffle, list));
     let alone = [&left, &right].map(|items| on_second(&beginning, items));
-    let feet = [
+    let footprints = [
         footprint(10, &left, &alone[0]),
         footprint(10, &right, &alone[1]),
     ];
@@ -262,7 +264,7 @@ fn a_wrong_end_is_told() {
         let mut ended = on_model(&beginning, &shuffle);
         spoil(&mut ended);
         check_given(&shuffle, &ended, &alone).is_ok()
-            && check_end(&beginning, &ended, &alone, &feet).is_ok()
+            && check_end(&beginning, &ended, &alone, &footprints).is_ok()
     };
     assert!(passes(|_| ()));
     assert!(!passes(|ended| ended.given[1].bits += 1));

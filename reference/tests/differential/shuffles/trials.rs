@@ -1,7 +1,7 @@
 //! Random pairs of lists that mostly keep out of each other's pages.
 
 use super::{claim, Beginning, Item, List};
-use crate::dice::Dice;
+use crate::rng::Rng;
 use crate::shrink::shortest;
 use crate::watch::watched;
 use reference::interface::{flat, from_reference};
@@ -30,56 +30,56 @@ enum Owner {
 }
 
 struct Trials {
-    dice: Dice,
+    rng: Rng,
 }
 
 impl Trials {
     fn beginning(&mut self) -> Beginning {
-        let data_pages = self.dice.pick(&[10, 10, 11, 12]);
+        let data_pages = self.rng.pick(&[10, 10, 11, 12]);
         let mut c = Controller {
             data_pages,
             phase: model::Phase::Ready,
-            provision_enabled: self.dice.percent(80),
-            seeds_locked: self.dice.percent(30),
+            provision_enabled: self.rng.percent(80),
+            seeds_locked: self.rng.percent(30),
             default_rights: self.rights(),
-            bank_erase_permissions: [self.dice.percent(80), self.dice.percent(80)],
+            bank_erase_permissions: [self.rng.percent(80), self.rng.percent(80)],
             ..Controller::default()
         };
         for setting in &mut c.info_settings {
-            setting.on = self.dice.percent(90);
+            setting.on = self.rng.percent(90);
             setting.rights = self.rights();
         }
         for region in c.regions.iter_mut().take(3) {
-            region.on = self.dice.percent(30);
-            region.first_page = self.dice.below(2 * data_pages);
-            region.page_count = self.dice.below(2 * data_pages - region.first_page + 1);
+            region.on = self.rng.percent(30);
+            region.first_page = self.rng.below(2 * data_pages);
+            region.page_count = self.rng.below(2 * data_pages - region.first_page + 1);
             region.rights = self.rights();
         }
-        if self.dice.percent(20) {
-            c.recorded = self.dice.pick(&[1 << 5, 1 << 9, 0x3A0]);
-            c.last_address = self.dice.word();
+        if self.rng.percent(20) {
+            c.recorded = self.rng.pick(&[1 << 5, 1 << 9, 0x3A0]);
+            c.last_address = self.rng.word();
         }
         let words = model::image_words(data_pages) as usize;
         // Where check 1 fails, every operation gives 1.
-        let wrong = self.dice.percent(1);
+        let wrong = self.rng.percent(1);
         Beginning {
             controller: from_reference(&c),
-            image: self.dice.flash_words(words - usize::from(wrong)),
+            image: self.rng.flash_words(words - usize::from(wrong)),
         }
     }
 
     fn rights(&mut self) -> u8 {
-        if self.dice.percent(80) {
+        if self.rng.percent(80) {
             7
         } else {
-            self.dice.below(8) as u8
+            self.rng.below(8) as u8
         }
     }
 
     /// Every page of the image has an owner: by bank, or page by page.
     fn owners(&mut self, data_pages: u32) -> Vec<Owner> {
         let bank_pages = data_pages as usize + 13;
-        let by_bank = self.dice.percent(25);
+        let by_bank = self.rng.percent(25);
         let owner = [
             Owner::One(List::Left),
             Owner::One(List::Right),
@@ -88,17 +88,17 @@ impl Trials {
         (0..2 * bank_pages)
             .map(|page| match by_bank {
                 true => owner[page / bank_pages],
-                false => self.dice.pick(&owner),
+                false => self.rng.pick(&owner),
             })
             .collect()
     }
 
     fn shuffle(&mut self, data_pages: u32) -> Vec<Item> {
         let owners = self.owners(data_pages);
-        let mut left = [self.dice.below(7), self.dice.below(7)];
+        let mut left = [self.rng.below(7), self.rng.below(7)];
         let mut items = Vec::new();
         while left[0] + left[1] > 0 {
-            let list = [List::Left, List::Right][self.dice.weighted(&left)];
+            let list = [List::Left, List::Right][self.rng.weighted(&left)];
             left[list as usize] -= 1;
             items.push(self.item(data_pages, list, &owners));
         }
@@ -106,29 +106,29 @@ impl Trials {
     }
 
     fn item(&mut self, data_pages: u32, list: List, owners: &[Owner]) -> Item {
-        let kind = [0, 1, 2, 3, 4, 256][self.dice.weighted(&[80, 80, 32, 6, 1, 1])];
+        let kind = [0, 1, 2, 3, 4, 256][self.rng.weighted(&[80, 80, 32, 6, 1, 1])];
         let page = self.page_for(list, kind, owners);
         let operation = self.operation_on(data_pages, kind, page);
-        let room = operation.count.min(64) + self.dice.below(4);
-        let words = room - u32::from(self.dice.percent(3)).min(room);
+        let room = operation.count.min(64) + self.rng.below(4);
+        let words = room - u32::from(self.rng.percent(3)).min(room);
         Item {
             list,
             operation,
-            buffer: self.dice.flash_words(words as usize),
+            buffer: self.rng.flash_words(words as usize),
         }
     }
 
     fn page_for(&mut self, list: List, kind: u32, owners: &[Owner]) -> u32 {
-        let anywhere = self.dice.percent(2);
+        let anywhere = self.rng.percent(2);
         loop {
-            let page = self.dice.below(owners.len() as u32);
+            let page = self.rng.below(owners.len() as u32);
             let owner = owners[page as usize];
             let shared = kind == flat::READ && owner == Owner::Nobody;
             if anywhere || shared || owner == Owner::One(list) {
                 return page;
             }
             // A list may own no page at all.
-            if self.dice.percent(1) {
+            if self.rng.percent(1) {
                 return page;
             }
         }
@@ -139,17 +139,17 @@ impl Trials {
         let bank_pages = data_pages + 13;
         let (bank, place) = (page / bank_pages, page % bank_pages);
         let (partition, info_type, page_in_bank) = match place.checked_sub(data_pages) {
-            None => (flat::DATA, self.dice.word(), place),
+            None => (flat::DATA, self.rng.word(), place),
             Some(info @ 0..=9) => (flat::INFORMATION, 0, info),
             Some(10) => (flat::INFORMATION, 1, 0),
             Some(info) => (flat::INFORMATION, 2, info - 11),
         };
-        let word = self.dice.below(256);
+        let word = self.rng.below(256);
         let count = match kind {
-            flat::PROGRAM if self.dice.percent(88) => self.dice.between(1, 16 - word % 16),
-            _ => self.dice.between(1, 20),
+            flat::PROGRAM if self.rng.percent(88) => self.rng.between(1, 16 - word % 16),
+            _ => self.rng.between(1, 20),
         };
-        let spoiled = u32::from(self.dice.percent(3));
+        let spoiled = u32::from(self.rng.percent(3));
         flat::Operation {
             address: (bank * data_pages + page_in_bank) * 1024 + 4 * word + spoiled,
             count,
@@ -162,7 +162,7 @@ impl Trials {
 
 fn trial(seed: u64) -> (Beginning, Vec<Item>) {
     let mut trials = Trials {
-        dice: Dice::new(seed),
+        rng: Rng::new(seed),
     };
     let beginning = trials.beginning();
     let shuffle = trials.shuffle(beginning.controller.data_pages);
@@ -175,7 +175,7 @@ pub fn trials(seed: u64, number: u64) -> Result<Counts, String> {
         let mut counts = Counts::default();
         let mut place = worker;
         while place < number && watch.begins(worker, place) {
-            let own_seed = Dice::new(seed.wrapping_add(place << 32)).seed();
+            let own_seed = Rng::new(seed.wrapping_add(place << 32)).seed();
             if let Err(told) = count_trial(own_seed, &mut counts) {
                 watch.stop();
                 return Err(format!("seed {seed:#x}, trial {place}: {told}"));

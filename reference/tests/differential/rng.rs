@@ -1,11 +1,11 @@
 //! Seeded random numbers (splitmix64), so that every run repeats.
 
 #[derive(Clone, Debug)]
-pub struct Dice(u64);
+pub struct Rng(u64);
 
-impl Dice {
+impl Rng {
     pub fn new(seed: u64) -> Self {
-        Dice(seed)
+        Rng(seed)
     }
 
     pub fn seed(&mut self) -> u64 {

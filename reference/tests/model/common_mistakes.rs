@@ -1,4 +1,4 @@
-//! "Slips we have seen on other benches": none of them is made here.
+//! 01's "Slips we have seen on other benches": none of them is made here.
 
 use crate::helpers::*;
 use reference::model::*;
