@@ -1,0 +1,49 @@
+//! 01, "When the desk says no": what a call gives beside its refusal number.
+
+pub const SEED_WORDS: usize = 8;
+
+#[derive(Clone, Copy, Debug, Default, PartialEq, Eq)]
+pub struct Initialised {
+    pub refusal: u8,
+    pub seeds_given: bool,
+    pub creator_seed: [u32; SEED_WORDS],
+    pub owner_seed: [u32; SEED_WORDS],
+}
+
+#[derive(Clone, Copy, Debug, PartialEq, Eq)]
+pub enum Progress {
+    Moved,
+    Finished,
+    Waiting,
+}
+
+#[derive(Clone, Copy, Debug, Default, PartialEq, Eq)]
+pub struct Stepped {
+    pub refusal: u8,
+    /// None exactly if the step is refused.
+    pub progress: Option<Progress>,
+    /// Bits changed in flash.
+    pub bits: u32,
+}
+
+/// The answer of a pop and of a host read.
+#[derive(Clone, Copy, Debug, Default, PartialEq, Eq)]
+pub struct WordGiven {
+    pub refusal: u8,
+    pub word: u32,
+}
+
+#[derive(Clone, Copy, Debug, Default, PartialEq, Eq)]
+pub struct WholeDone {
+    pub refusal: u8,
+    /// Bits changed in flash.
+    pub bits: u32,
+}
+
+/// Bus words `start .. start + length` of the lent image; refused: 0 and 0.
+#[derive(Clone, Copy, Debug, Default, PartialEq, Eq)]
+pub struct View {
+    pub refusal: u8,
+    pub start: usize,
+    pub length: usize,
+}

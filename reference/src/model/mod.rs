@@ -1,0 +1,34 @@
+//! Document 01, "Exact rules for the build", as one plain program.
+//!
+//! Every public call takes any controller, also a broken one, and gives the
+//! refusal number of 01 (0 for none) with whatever else the call hands out.
+
+mod answers;
+mod checks;
+mod geometry;
+mod host;
+mod judging;
+mod lifecycle;
+mod operation;
+mod queue;
+mod refusals;
+mod rights;
+mod settings;
+mod state;
+mod steps;
+mod validity;
+mod whole;
+
+pub use answers::*;
+pub use geometry::*;
+pub use host::*;
+pub use lifecycle::*;
+pub use operation::*;
+pub use queue::*;
+pub use refusals::*;
+pub use rights::*;
+pub use settings::*;
+pub use state::*;
+pub use steps::*;
+pub use validity::*;
+pub use whole::*;
