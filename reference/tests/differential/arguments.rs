@@ -1,5 +1,6 @@
 //! Arguments of calls: mostly sensible and near a border, sometimes nonsense.
 
+use crate::layout::{pages_of_type, INFO_PAGES, PAGE_BYTES, PAGE_WORDS};
 use crate::rng::Rng;
 use reference::interface::flat;
 use reference::model::Controller;
@@ -105,7 +106,7 @@ impl Arguments<'_> {
         let pages = pages_of_type(info_type);
         match self.rng.below(16) {
             0 => pages,
-            1 => self.rng.pick(&[pages + 1, 13, u32::MAX]),
+            1 => self.rng.pick(&[pages + 1, INFO_PAGES, u32::MAX]),
             _ => self.rng.below(pages),
         }
     }
@@ -156,16 +157,18 @@ impl Arguments<'_> {
         let window = 64 * self.rng.below(16);
         match self.rng.below(6) {
             0 => 0,
-            1 => 1024 - 4 * self.rng.between(1, 4),
+            1 => PAGE_BYTES - 4 * self.rng.between(1, 4),
             2 => window,
             3 => window + 64 - 4 * self.rng.between(1, 3),
-            _ => 4 * self.rng.below(256),
+            _ => 4 * self.rng.below(PAGE_WORDS),
         }
     }
 
     /// Rarely spoiled: unaligned, or far outside.
     fn address(&mut self, page: u32) -> u32 {
-        let address = page.saturating_mul(1024).saturating_add(self.offset());
+        let address = page
+            .saturating_mul(PAGE_BYTES)
+            .saturating_add(self.offset());
         match self.rng.below(40) {
             0 => address | self.rng.between(1, 3),
             1 => self.rng.word(),
@@ -237,12 +240,12 @@ impl Arguments<'_> {
 
     /// Long reads are rare: the second program judges each of their words at each call.
     fn read_count(&mut self, address: u32) -> u32 {
-        let to_page_end = 256 - address / 4 % 256;
+        let to_page_end = PAGE_WORDS - address / 4 % PAGE_WORDS;
         match self.rng.weighted(&[50, 20, 24, 4, 2]) {
             0 => self.rng.between(1, 20),
             1 => self.rng.pick(&[15, 16, 17, 32, 33]),
             2 => to_page_end.min(40) + self.rng.below(2),
-            3 => to_page_end + self.rng.below(3) * 256,
+            3 => to_page_end + self.rng.below(3) * PAGE_WORDS,
             _ => self.rng.pick(&[1024, 1023, 512, 768, 769]),
         }
     }
@@ -270,14 +273,5 @@ impl Arguments<'_> {
             _ => count + self.rng.between(1, 15),
         };
         words as usize
-    }
-}
-
-/// A type that is none has no pages; one stands for it, so that numbers can be drawn.
-fn pages_of_type(info_type: u32) -> u32 {
-    match info_type {
-        0 => 10,
-        2 => 2,
-        _ => 1,
     }
 }

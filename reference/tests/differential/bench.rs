@@ -2,6 +2,7 @@
 
 use crate::calls::{on_model, on_second, Call, Memory, Outcome};
 use crate::compare;
+use crate::layout::{first_page_of_bank, image_page, words_of, PAGE_WORDS};
 use crate::panics::caught;
 use crate::rng::Rng;
 use reference::interface::{fields, flat, to_reference};
@@ -11,7 +12,7 @@ use std::ops::Range;
 /// Both memories are compared whole at least once in so many turns.
 const TURNS_BETWEEN_WHOLE_LOOKS: u32 = 64;
 /// Room past the longest right image, so that images can be too long by two pages.
-const IMAGE_ROOM: usize = 512;
+const IMAGE_ROOM: usize = 2 * PAGE_WORDS as usize;
 pub const BUFFER_WORDS: usize = 1_040;
 
 /// What a run starts with. The image holds what its seed gives.
@@ -188,21 +189,15 @@ fn image_room(max_data_pages: u32) -> usize {
 /// The image's page that holds the word which a step of this state changes.
 fn page_at_work(c: &flat::Controller) -> Range<usize> {
     let operation = &c.progress.operation;
-    let page = operation.address / 1024;
-    let (bank, page_in_bank) = (page / c.data_pages, page % c.data_pages);
-    let info = match operation.info_type {
-        0 => c.data_pages,
-        1 => c.data_pages + 10,
-        _ => c.data_pages + 11,
+    let address = operation.address;
+    let page = match operation.kind {
+        flat::READ => return 0..0,
+        flat::BANK_ERASE => {
+            first_page_of_bank(c.data_pages, address) + c.progress.moved / PAGE_WORDS
+        }
+        _ => image_page(c.data_pages, operation, address),
     };
-    let place = match (operation.kind, operation.partition) {
-        (flat::READ, _) => return 0..0,
-        (flat::BANK_ERASE, _) => c.progress.moved / 256,
-        (_, flat::DATA) => page_in_bank,
-        _ => info + page_in_bank,
-    };
-    let start = (bank * (c.data_pages + 13) + place) as usize * 256;
-    start..start + 256
+    words_of(page)
 }
 
 /// Bank 1 begins at bus word 7,424 and the creator page at 4,352 where D is 16.

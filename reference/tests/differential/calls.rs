@@ -1,6 +1,7 @@
 //! The calls of document 01 with their arguments, made on the proved model
 //! through its C interface and on the second program.
 
+use crate::layout::PAGE_WORDS;
 use crate::rng::Rng;
 use reference::interface::{
     asked_byte, asked_flag, asked_operation, asked_region, asked_setting, calls as library, flat,
@@ -235,7 +236,7 @@ fn fetched(given: flat::Fetched) -> Outcome {
 /// Refused, the view is empty.
 fn viewed(given: flat::Viewed) -> Outcome {
     let start = given.start as usize;
-    let length = if given.answer == 0 { 256 } else { 0 };
+    let length = if given.answer == 0 { PAGE_WORDS } else { 0 } as usize;
     Outcome {
         answer: given.answer,
         view: start..start + length,

@@ -4,9 +4,9 @@
 use crate::arguments::Arguments;
 use crate::bench::{Bench, Start, Turn, Write};
 use crate::calls::Call;
+use crate::layout::{bank_pages, DATA_PAGES, PAGE_BYTES, PAGE_WORDS};
 use crate::rng::Rng;
 use crate::states;
-use crate::table::DATA_PAGES;
 use reference::interface::{flat, to_reference};
 use reference::model::{self, Controller, InProgress, Phase};
 
@@ -191,7 +191,7 @@ impl Generator {
             return self.turn_after(bench, Vec::new(), choice);
         }
         let operation = flat::Operation {
-            address: self.rng.below(2) * bench.flat().data_pages * 1024,
+            address: self.rng.below(2) * bench.flat().data_pages * PAGE_BYTES,
             count: self.rng.word(),
             kind: flat::BANK_ERASE,
             partition: self.rng.below(2),
@@ -351,15 +351,17 @@ fn data_pages_of(rng: &mut Rng, episode: u64) -> u32 {
 
 /// A D for reset whose image fits, or a wrong one.
 fn new_data_pages(rng: &mut Rng, data_pages: u32, room: usize) -> u32 {
-    let words_of_two_pages = 512;
-    let fits = (room / words_of_two_pages)
-        .saturating_sub(14)
-        .clamp(10, 256) as u32;
+    // The room past the right image is one page in each bank.
+    let least = *DATA_PAGES.start();
+    let room_of_bank = room as u32 / PAGE_WORDS / 2;
+    let fits = room_of_bank
+        .saturating_sub(bank_pages(1))
+        .clamp(least, *DATA_PAGES.end());
     match rng.below(10) {
         0 => rng.pick(&[0, 9, 257, 1024, u32::MAX, 1 << 31]),
-        1 => 10,
+        1 => least,
         2 => data_pages.saturating_add(1),
-        3 => rng.between(10, fits),
+        3 => rng.between(least, fits),
         _ if DATA_PAGES.contains(&data_pages) => data_pages,
         _ => fits,
     }

@@ -9,6 +9,7 @@ mod bench;
 mod calls;
 mod compare;
 mod generator;
+mod layout;
 mod panics;
 mod rng;
 mod run;

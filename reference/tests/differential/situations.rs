@@ -2,6 +2,7 @@
 //! there before it.
 
 use crate::calls::{Call, Outcome};
+use crate::layout::{MOST_DATA_PAGES, PAGE_BYTES};
 use reference::interface::flat::{self, Controller, Operation};
 use reference::model;
 
@@ -146,7 +147,7 @@ impl Met<'_> {
     /// The data page that a host read or a view asks for.
     fn page(&self) -> Option<u32> {
         match self.call {
-            Call::HostRead { address, .. } => Some(address / 1024),
+            Call::HostRead { address, .. } => Some(address / PAGE_BYTES),
             Call::View { page, .. } => Some(*page),
             _ => None,
         }
@@ -165,7 +166,7 @@ impl Met<'_> {
     }
 
     fn right(&self) -> usize {
-        model::image_words(self.before.data_pages.min(256)) as usize
+        model::image_words(self.before.data_pages.min(MOST_DATA_PAGES)) as usize
     }
 
     fn erased_by_steps(&self, partition: u32) -> bool {
@@ -180,7 +181,10 @@ impl Met<'_> {
 /// The first and the last page of an operation's words.
 fn pages(operation: Operation) -> (u32, u32) {
     let last = u64::from(operation.address) + 4 * u64::from(operation.count.max(1)) - 1;
-    (operation.address / 1024, (last / 1024) as u32)
+    (
+        operation.address / PAGE_BYTES,
+        (last / u64::from(PAGE_BYTES)) as u32,
+    )
 }
 
 /// All rights that stand in the state.

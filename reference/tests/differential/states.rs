@@ -3,6 +3,7 @@
 
 use crate::arguments::Arguments;
 use crate::bench::{Start, Write};
+use crate::layout::{words_to_move, MOST_DATA_PAGES, PAGE_BYTES};
 use crate::rng::Rng;
 use reference::interface::{fields, flat};
 use reference::model::Controller;
@@ -31,7 +32,7 @@ fn start(
 ) -> Start {
     Start {
         controller: controller(rng),
-        max_data_pages: (data_pages + ROOM).min(256),
+        max_data_pages: (data_pages + ROOM).min(MOST_DATA_PAGES),
         image_seed: rng.seed(),
     }
 }
@@ -154,21 +155,11 @@ pub fn settings_written(rng: &mut Rng, c: &flat::Controller) -> Vec<Write> {
 /// The operation in progress is near its end.
 pub fn near_its_end(rng: &mut Rng, c: &flat::Controller) -> Vec<Write> {
     let mut near = *c;
-    let words = words_to_move(c);
+    let words = words_to_move(c.data_pages, &c.progress.operation);
     let queued = c.program_queue.length;
     let left = rng.between(1, 4).max(queued);
     near.progress.moved = words.saturating_sub(left).max(c.progress.moved);
     writes_between(c, &near)
-}
-
-fn words_to_move(c: &flat::Controller) -> u32 {
-    let operation = &c.progress.operation;
-    match (operation.kind, operation.partition) {
-        (0 | 1, _) => operation.count,
-        (2, _) => 256,
-        (_, 0) => c.data_pages * 256,
-        _ => (c.data_pages + 13) * 256,
-    }
 }
 
 /// Some fields with other values: one alone, or several at once.
@@ -218,7 +209,7 @@ fn other_value(rng: &mut Rng, c: &flat::Controller, value: u32) -> u32 {
         2 => value ^ 1 << rng.below(32),
         3 => rng.word(),
         4 => value.wrapping_add(rng.pick(&[1 << 8, 1 << 16, 1 << 24, 1 << 31])),
-        5 => rng.pick(&[d - 1, d, d + 1, 2 * d - 1, 2 * d, 2 * d + 1, d * 1024]),
+        5 => rng.pick(&[d - 1, d, d + 1, 2 * d - 1, 2 * d, 2 * d + 1, d * PAGE_BYTES]),
         6 => rng.pick(&[9, 10, 15, 16, 17, 255, 256, 257, 1024, 1025, u32::MAX]),
         _ => rng.below(10),
     }
@@ -234,7 +225,7 @@ pub fn progress_written(rng: &mut Rng, c: &flat::Controller, state: &Controller)
         readable: 0,
         running: 1,
     };
-    let words = words_to_move(&written);
+    let words = words_to_move(c.data_pages, &operation);
     written.progress.moved = match rng.below(6) {
         0 => words,
         1 => words.wrapping_sub(1),

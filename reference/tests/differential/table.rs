@@ -1,6 +1,7 @@
 //! Which call may answer what, by document 01, and how often each pair was met.
 
 use crate::calls::{Call, Outcome};
+use crate::layout::{DATA_PAGES, MOST_DATA_PAGES};
 use crate::situations::{Met, SITUATIONS};
 use reference::interface::flat;
 use std::fmt::Write;
@@ -9,10 +10,6 @@ const ANSWERS: usize = 14;
 const CALLS: usize = 16;
 /// So many calls meet every situation.
 const CALLS_THAT_MEET_ALL: u64 = 1_000_000;
-
-const MOST_DATA_PAGES: usize = 256;
-/// Smallest and largest D.
-pub const DATA_PAGES: std::ops::RangeInclusive<u32> = 10..=MOST_DATA_PAGES as u32;
 
 /// A call of 01 and the answers its rule allows.
 struct Row {
@@ -180,7 +177,7 @@ pub struct Tally {
     pairs: [[u64; ANSWERS]; CALLS],
     movements: [[u64; 4]; WORKS.len()],
     situations: [u64; SITUATIONS.len()],
-    data_pages: [u64; MOST_DATA_PAGES + 1],
+    data_pages: [u64; MOST_DATA_PAGES as usize + 1],
 }
 
 impl Tally {
@@ -190,7 +187,7 @@ impl Tally {
             pairs: [[0; ANSWERS]; CALLS],
             movements: [[0; 4]; WORKS.len()],
             situations: [0; SITUATIONS.len()],
-            data_pages: [0; MOST_DATA_PAGES + 1],
+            data_pages: [0; MOST_DATA_PAGES as usize + 1],
         }
     }
 

@@ -1,14 +1,15 @@
 //! Which pages a list of whole operations touches.
 
 use super::{Ended, Item};
+use crate::layout::{first_page_of_bank, image_page, words_to_move, PAGE_WORDS, WORD_BYTES};
 use reference::interface::flat;
 use std::collections::BTreeSet;
 
 /// The image's pages that a list touches.
 #[derive(Default)]
 pub struct Footprint {
-    pub read: BTreeSet<usize>,
-    pub written: BTreeSet<usize>,
+    pub read: BTreeSet<u32>,
+    pub written: BTreeSet<u32>,
 }
 
 /// No page that one list programs or erases is read, programmed or erased by the other.
@@ -37,29 +38,19 @@ pub fn footprint(data_pages: u32, items: &[Item], ended: &Ended) -> Footprint {
 }
 
 /// The image's pages with one of an operation's words.
-fn pages_of(data_pages: u32, operation: &flat::Operation) -> Vec<usize> {
-    let bank_pages = data_pages + 13;
-    let page_at = |address: u32| {
-        let page = address / 1024;
-        let own = match (operation.partition, operation.info_type) {
-            (flat::DATA, _) => 0,
-            (_, 0) => data_pages,
-            (_, 1) => data_pages + 10,
-            _ => data_pages + 11,
-        };
-        (page / data_pages * bank_pages + own + page % data_pages) as usize
+fn pages_of(data_pages: u32, operation: &flat::Operation) -> Vec<u32> {
+    let page_of = |word| {
+        let address = operation.address + WORD_BYTES * word;
+        image_page(data_pages, operation, address)
     };
-    let words = |n: u32| (0..n).map(|i| page_at(operation.address + 4 * i)).collect();
+    let words = |n: u32| (0..n).map(page_of).collect();
     match operation.kind {
         flat::READ | flat::PROGRAM => words(operation.count),
         flat::PAGE_ERASE => words(1),
         _ => {
-            let first = operation.address / 1024 / data_pages * bank_pages;
-            let covered = match operation.partition {
-                flat::DATA => data_pages,
-                _ => bank_pages,
-            };
-            (first..first + covered).map(|page| page as usize).collect()
+            let first = first_page_of_bank(data_pages, operation.address);
+            let covered = words_to_move(data_pages, operation) / PAGE_WORDS;
+            (first..first + covered).collect()
         }
     }
 }

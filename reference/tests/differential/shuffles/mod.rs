@@ -4,6 +4,7 @@
 mod footprint;
 mod trials;
 
+use crate::layout::words_of;
 use footprint::{footprint, keep_apart, Footprint};
 use reference::interface::{
     asked_operation, calls as library, fields, flat, from_reference, to_reference,
@@ -11,8 +12,6 @@ use reference::interface::{
 use reference::model::{self, Controller};
 
 pub use trials::trials;
-
-const PAGE_WORDS: usize = 256;
 
 #[derive(Clone, Copy, Debug, PartialEq, Eq)]
 enum List {
@@ -113,8 +112,8 @@ fn check_end(
 ) -> Result<(), String> {
     let mut image = beginning.image.clone();
     for (ended, footprint) in alone.iter().zip(footprints) {
-        for page in &footprint.written {
-            let words = page * PAGE_WORDS..(page + 1) * PAGE_WORDS;
+        for &page in &footprint.written {
+            let words = words_of(page);
             image[words.clone()].copy_from_slice(&ended.image[words]);
         }
     }

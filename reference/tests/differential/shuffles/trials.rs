@@ -1,6 +1,7 @@
 //! Random pairs of lists that mostly keep out of each other's pages.
 
 use super::{claim, Beginning, Item, List};
+use crate::layout::{bank_pages, type_and_page, PAGE_BYTES, PAGE_WORDS, WORD_BYTES};
 use crate::rng::Rng;
 use crate::shrink::shortest;
 use crate::watch::watched;
@@ -78,7 +79,7 @@ impl Trials {
 
     /// Every page of the image has an owner: by bank, or page by page.
     fn owners(&mut self, data_pages: u32) -> Vec<Owner> {
-        let bank_pages = data_pages as usize + 13;
+        let bank_pages = bank_pages(data_pages) as usize;
         let by_bank = self.rng.percent(25);
         let owner = [
             Owner::One(List::Left),
@@ -136,22 +137,23 @@ impl Trials {
 
     /// An operation on a page of the image, rarely spoiled.
     fn operation_on(&mut self, data_pages: u32, kind: u32, page: u32) -> flat::Operation {
-        let bank_pages = data_pages + 13;
+        let bank_pages = bank_pages(data_pages);
         let (bank, place) = (page / bank_pages, page % bank_pages);
         let (partition, info_type, page_in_bank) = match place.checked_sub(data_pages) {
             None => (flat::DATA, self.rng.word(), place),
-            Some(info @ 0..=9) => (flat::INFORMATION, 0, info),
-            Some(10) => (flat::INFORMATION, 1, 0),
-            Some(info) => (flat::INFORMATION, 2, info - 11),
+            Some(info_page) => {
+                let (info_type, page_in_type) = type_and_page(info_page);
+                (flat::INFORMATION, info_type, page_in_type)
+            }
         };
-        let word = self.rng.below(256);
+        let word = self.rng.below(PAGE_WORDS);
         let count = match kind {
             flat::PROGRAM if self.rng.percent(88) => self.rng.between(1, 16 - word % 16),
             _ => self.rng.between(1, 20),
         };
         let spoiled = u32::from(self.rng.percent(3));
         flat::Operation {
-            address: (bank * data_pages + page_in_bank) * 1024 + 4 * word + spoiled,
+            address: (bank * data_pages + page_in_bank) * PAGE_BYTES + WORD_BYTES * word + spoiled,
             count,
             kind,
             partition,
