@@ -1,0 +1,150 @@
+//! 01, "Who may touch which page" and "When the desk says no": rights and checks.
+
+use super::words::{erased, INFO_PAGES, INFO_TYPES, PAGE_BYTES, WORD_BYTES};
+use crate::model::{
+    Controller, InProgress, Operation, Phase, Region, ALL_RIGHTS, BANK_ERASE, CREATOR_PAGE,
+    CROSSES_WINDOW, DATA, DENIED, DISABLED, INFORMATION, MALFORMED, MAX_COUNT, NONE, OUT_OF_RANGE,
+    OWNER_PAGE, PAGE_ERASE, PROGRAM, QUEUE_WORDS, READ, RIGHT_ERASE, RIGHT_PROGRAM, RIGHT_READ,
+    UNINITIALISED,
+};
+
+const WINDOW_BYTES: u32 = 64;
+const RECORDED_KINDS: u32 = 1 << MALFORMED | 1 << OUT_OF_RANGE | 1 << CROSSES_WINDOW | 1 << DENIED;
+
+pub(super) fn not_ready(c: &Controller) -> Option<u8> {
+    match c.phase {
+        Phase::Disabled => Some(DISABLED),
+        Phase::Uninitialised => Some(UNINITIALISED),
+        Phase::Ready => None,
+    }
+}
+
+/// Check 1, but for the image.
+pub(super) fn valid(c: &Controller) -> bool {
+    let pages = 2 * u64::from(c.data_pages);
+    let region_ends = |r: &Region| u64::from(r.first_page) + u64::from(r.page_count);
+    let queues = [c.read_queue.length, c.program_queue.length];
+    let idle = queues == [0, 0] && c.in_progress == InProgress::Nothing;
+    (10..=256).contains(&c.data_pages)
+        && c.default_rights <= ALL_RIGHTS
+        && (c.regions.iter()).all(|r| r.rights <= ALL_RIGHTS && region_ends(r) <= pages)
+        && c.info_settings.iter().all(|s| s.rights <= ALL_RIGHTS)
+        && c.recorded & !RECORDED_KINDS == 0
+        && (c.recorded != 0 || c.last_address == 0)
+        && queues.iter().all(|length| *length <= QUEUE_WORDS)
+        && (c.phase == Phase::Ready || idle)
+        && valid_progress(c)
+}
+
+fn valid_progress(c: &Controller) -> bool {
+    let queued = c.program_queue.length;
+    match &c.in_progress {
+        InProgress::Nothing => queued == 0,
+        InProgress::Read {
+            operation,
+            moved,
+            readable,
+        } => {
+            let fits = match judge(c, operation) {
+                NONE => *readable == operation.count,
+                DENIED => *readable == 0,
+                _ => false,
+            };
+            operation.kind == READ && fits && *moved < operation.count && queued == 0
+        }
+        InProgress::Program { operation, moved } => {
+            operation.kind == PROGRAM
+                && judge(c, operation) == NONE
+                && *moved < operation.count
+                && moved + queued <= operation.count
+        }
+        InProgress::Erase { operation, moved } => {
+            matches!(operation.kind, PAGE_ERASE | BANK_ERASE)
+                && judge(c, operation) == NONE
+                && (*moved as usize) < erased(c.data_pages, operation).len()
+                && queued == 0
+        }
+    }
+}
+
+pub(super) fn counts(operation: &Operation) -> bool {
+    matches!(operation.kind, READ | PROGRAM)
+}
+
+/// Checks 5, 7, 8 and 9, of a D that is right.
+pub(super) fn judge(c: &Controller, operation: &Operation) -> u8 {
+    if !well_formed(operation) {
+        return MALFORMED;
+    }
+    let d = c.data_pages;
+    if operation.address >= 2 * d * PAGE_BYTES {
+        return OUT_OF_RANGE;
+    }
+    let first = operation.address / PAGE_BYTES;
+    if operation.kind == BANK_ERASE {
+        let allowed = c.bank_erase_permissions[(first / d) as usize];
+        return if allowed { NONE } else { DENIED };
+    }
+    let last_byte = match operation.kind {
+        PAGE_ERASE => operation.address,
+        _ => operation.address + WORD_BYTES * operation.count - 1,
+    };
+    let last = last_byte / PAGE_BYTES;
+    // D is at least 10, so an information span that fits its type stays in its bank.
+    let fits = match operation.partition {
+        DATA => last < 2 * d,
+        _ => first % d + (last - first) < INFO_TYPES[usize::from(operation.info_type)].1,
+    };
+    if !fits {
+        return OUT_OF_RANGE;
+    }
+    if operation.kind == PROGRAM && operation.address / WINDOW_BYTES != last_byte / WINDOW_BYTES {
+        return CROSSES_WINDOW;
+    }
+    let right = match operation.kind {
+        READ => RIGHT_READ,
+        PROGRAM => RIGHT_PROGRAM,
+        _ => RIGHT_ERASE,
+    };
+    let mut pages = first..last + 1;
+    let allowed = match operation.partition {
+        DATA => pages.all(|page| data_rights(c, page) & right != 0),
+        _ => pages.all(|page| info_rights(c, operation.info_type, page) & right != 0),
+    };
+    if allowed {
+        NONE
+    } else {
+        DENIED
+    }
+}
+
+fn well_formed(operation: &Operation) -> bool {
+    let uses_type = operation.partition == INFORMATION && operation.kind != BANK_ERASE;
+    operation.kind <= BANK_ERASE
+        && operation.partition <= INFORMATION
+        && (operation.info_type <= 2 || !uses_type)
+        && operation.address.is_multiple_of(WORD_BYTES)
+        && ((1..=MAX_COUNT).contains(&operation.count) || !counts(operation))
+}
+
+/// Of a data page, counted over both banks.
+pub(super) fn data_rights(c: &Controller, page: u32) -> u8 {
+    let holds = |r: &&Region| r.on && r.first_page <= page && page - r.first_page < r.page_count;
+    let decides = c.regions.iter().find(holds);
+    decides.map_or(c.default_rights, |region| region.rights)
+}
+
+/// Of an information page, by the data page that has its addresses.
+fn info_rights(c: &Controller, info_type: u8, page: u32) -> u8 {
+    let (bank, page) = (page / c.data_pages, page % c.data_pages);
+    let index = bank * INFO_PAGES + INFO_TYPES[usize::from(info_type)].0 + page;
+    let setting = c.info_settings[index as usize];
+    let seed_page = |number| bank == 0 && info_type == 0 && u64::from(page) == number;
+    let denied = seed_page(CREATOR_PAGE) && (!c.provision_enabled || c.seeds_locked)
+        || seed_page(OWNER_PAGE) && !c.provision_enabled;
+    if setting.on && !denied {
+        setting.rights
+    } else {
+        0
+    }
+}

@@ -1,0 +1,227 @@
+//! The calls that `speed` measures, as plain Rust on the second program's state:
+//! every check of document 01, made once in a call, and the words of a whole
+//! operation moved page by page.
+//!
+//! It is there to be measured against; what is compared call by call with the
+//! proved model is the second program.
+
+mod checks;
+mod queue;
+mod words;
+
+use crate::model::{
+    Controller, InProgress, Operation, Progress, Queue, Stepped, WholeDone, WordGiven, BUSY,
+    DENIED, INVALID, MALFORMED, NONE, ONES, OUT_OF_RANGE, PROGRAM, QUEUE_EMPTY, QUEUE_FULL,
+    QUEUE_WORDS, READ, RIGHT_READ, SHORT_BUFFER, UNEXPECTED,
+};
+use checks::{counts, data_rights, judge, not_ready, valid};
+use queue::{add, take_oldest};
+use words::{erase, erased, image_words, place, program, put, read, PAGE_BYTES, WORD_BYTES};
+
+pub fn start(c: &mut Controller, operation: Operation) -> u8 {
+    if !valid(c) {
+        return INVALID;
+    }
+    if let Some(refusal) = not_ready(c) {
+        return refusal;
+    }
+    if c.in_progress != InProgress::Nothing {
+        return BUSY;
+    }
+    let verdict = judge(c, &operation);
+    record(c, verdict, operation.address);
+    let moved = 0;
+    match (operation.kind, verdict) {
+        (READ, NONE) => {
+            c.in_progress = InProgress::Read {
+                operation,
+                moved,
+                readable: operation.count,
+            }
+        }
+        (READ, DENIED) => {
+            c.in_progress = InProgress::Read {
+                operation,
+                moved,
+                readable: 0,
+            }
+        }
+        (PROGRAM, NONE) => c.in_progress = InProgress::Program { operation, moved },
+        (_, NONE) => c.in_progress = InProgress::Erase { operation, moved },
+        _ => {}
+    }
+    verdict
+}
+
+pub fn step(c: &mut Controller, image: &mut [u32]) -> Stepped {
+    let refused = |refusal| Stepped {
+        refusal,
+        ..Stepped::default()
+    };
+    if !valid(c) || image.len() != image_words(c.data_pages) {
+        return refused(INVALID);
+    }
+    if let Some(refusal) = not_ready(c) {
+        return refused(refusal);
+    }
+    let d = c.data_pages;
+    let waiting = Stepped {
+        progress: Some(Progress::Waiting),
+        ..Stepped::default()
+    };
+    let (finished, bits) = match &mut c.in_progress {
+        InProgress::Nothing => return refused(UNEXPECTED),
+        InProgress::Read {
+            operation,
+            moved,
+            readable,
+        } => {
+            if c.read_queue.length == QUEUE_WORDS {
+                return waiting;
+            }
+            let word = if *moved < *readable {
+                image[place(d, operation, operation.address + WORD_BYTES * *moved)]
+            } else {
+                ONES
+            };
+            add(&mut c.read_queue, word);
+            *moved += 1;
+            (*moved == operation.count, 0)
+        }
+        InProgress::Program { operation, moved } => {
+            if c.program_queue.length == 0 {
+                return waiting;
+            }
+            let word = &mut image[place(d, operation, operation.address + WORD_BYTES * *moved)];
+            let bits = put(word, *word & take_oldest(&mut c.program_queue));
+            *moved += 1;
+            (*moved == operation.count, bits)
+        }
+        InProgress::Erase { operation, moved } => {
+            let erased = erased(d, operation);
+            let bits = put(&mut image[erased.start + *moved as usize], ONES);
+            *moved += 1;
+            (*moved as usize == erased.len(), bits)
+        }
+    };
+    if finished {
+        c.in_progress = InProgress::Nothing;
+    }
+    Stepped {
+        refusal: NONE,
+        progress: Some(if finished {
+            Progress::Finished
+        } else {
+            Progress::Moved
+        }),
+        bits,
+    }
+}
+
+pub fn push(c: &mut Controller, word: u32) -> u8 {
+    if !valid(c) {
+        return INVALID;
+    }
+    if let Some(refusal) = not_ready(c) {
+        return refusal;
+    }
+    let InProgress::Program { operation, moved } = &c.in_progress else {
+        return UNEXPECTED;
+    };
+    if moved + c.program_queue.length == operation.count {
+        return UNEXPECTED;
+    }
+    if c.program_queue.length == QUEUE_WORDS {
+        return QUEUE_FULL;
+    }
+    add(&mut c.program_queue, word);
+    NONE
+}
+
+pub fn pop(c: &mut Controller) -> WordGiven {
+    let refused = |refusal| WordGiven { refusal, word: 0 };
+    if !valid(c) {
+        return refused(INVALID);
+    }
+    if c.read_queue.length == 0 {
+        return refused(QUEUE_EMPTY);
+    }
+    WordGiven {
+        refusal: NONE,
+        word: take_oldest(&mut c.read_queue),
+    }
+}
+
+pub fn whole(
+    c: &mut Controller,
+    operation: Operation,
+    image: &mut [u32],
+    buffer: &mut [u32],
+) -> WholeDone {
+    let done = |refusal, bits| WholeDone { refusal, bits };
+    if !valid(c) || image.len() != image_words(c.data_pages) {
+        return done(INVALID, 0);
+    }
+    if let Some(refusal) = not_ready(c) {
+        return done(refusal, 0);
+    }
+    let queued = c.read_queue.length + c.program_queue.length;
+    if c.in_progress != InProgress::Nothing || queued > 0 {
+        return done(BUSY, 0);
+    }
+    let verdict = judge(c, &operation);
+    let count = operation.count as usize;
+    if verdict != MALFORMED && counts(&operation) && buffer.len() < count {
+        return done(SHORT_BUFFER, 0);
+    }
+    record(c, verdict, operation.address);
+    let d = c.data_pages;
+    match (operation.kind, verdict) {
+        (READ, NONE) => {
+            read(&mut buffer[..count], image, d, &operation);
+            c.read_queue = Queue::default();
+            done(NONE, 0)
+        }
+        (READ, DENIED) => {
+            buffer[..count].fill(ONES);
+            c.read_queue = Queue::default();
+            done(DENIED, 0)
+        }
+        (PROGRAM, NONE) => {
+            c.program_queue = Queue::default();
+            done(NONE, program(image, &buffer[..count], d, &operation))
+        }
+        (_, NONE) => done(NONE, erase(&mut image[erased(d, &operation)])),
+        _ => done(verdict, 0),
+    }
+}
+
+pub fn host_read(c: &Controller, image: &[u32], address: u32) -> WordGiven {
+    let refused = |refusal| WordGiven { refusal, word: 0 };
+    if !valid(c) || image.len() != image_words(c.data_pages) {
+        return refused(INVALID);
+    }
+    if let Some(refusal) = not_ready(c) {
+        return refused(refusal);
+    }
+    if !address.is_multiple_of(WORD_BYTES) {
+        return refused(MALFORMED);
+    }
+    if address >= 2 * c.data_pages * PAGE_BYTES {
+        return refused(OUT_OF_RANGE);
+    }
+    if data_rights(c, address / PAGE_BYTES) & RIGHT_READ == 0 {
+        return refused(DENIED);
+    }
+    WordGiven {
+        refusal: NONE,
+        word: image[place(c.data_pages, &Operation::default(), address)],
+    }
+}
+
+fn record(c: &mut Controller, verdict: u8, address: u32) {
+    if verdict != NONE {
+        c.recorded |= 1 << verdict;
+        c.last_address = address;
+    }
+}
