@@ -1,7 +1,7 @@
 //! The plain Rust that `speed` measures does what the second program does.
 
 use crate::helpers::*;
-use crate::random_runs::Dice;
+use crate::random_runs::Rng;
 use reference::model::{self, *};
 use reference::plain;
 
@@ -24,12 +24,12 @@ enum Call {
 }
 
 impl Call {
-    fn random(dice: &mut Dice) -> Self {
-        match dice.below(16) {
-            0 => Call::Start(dice.operation()),
-            1 | 2 => Call::Whole(dice.operation()),
-            3 => Call::HostRead(dice.below(0x2100) * 4 + dice.below(2)),
-            4..=6 => Call::Push(dice.word()),
+    fn random(rng: &mut Rng) -> Self {
+        match rng.below(16) {
+            0 => Call::Start(rng.operation()),
+            1 | 2 => Call::Whole(rng.operation()),
+            3 => Call::HostRead(rng.below(0x2100) * 4 + rng.below(2)),
+            4..=6 => Call::Push(rng.word()),
             7 | 8 => Call::Pop,
             _ => Call::Step,
         }
@@ -60,18 +60,18 @@ impl Call {
     }
 }
 
-fn assert_alike(dice: &mut Dice, c: Controller, calls: u32) {
+fn assert_alike(rng: &mut Rng, c: Controller, calls: u32) {
     let mut second = Bench {
         c,
         image: patterned(),
-        buffer: (0..600).map(|_| dice.word()).collect(),
+        buffer: (0..600).map(|_| rng.word()).collect(),
     };
-    if dice.below(40) == 0 {
+    if rng.below(40) == 0 {
         second.image.pop();
     }
     let mut plain = second.clone();
     for _ in 0..calls {
-        let call = Call::random(dice);
+        let call = Call::random(rng);
         assert_eq!(
             call.on_plain(&mut plain),
             call.on_second(&mut second),
@@ -84,22 +84,22 @@ fn assert_alike(dice: &mut Dice, c: Controller, calls: u32) {
 
 #[test]
 fn it_answers_every_state_alike() {
-    let mut dice = Dice(0x0BAD_5EED_1234_5677);
+    let mut rng = Rng(0x0BAD_5EED_1234_5677);
     for _ in 0..4_000 {
-        let c = dice.controller();
-        assert_alike(&mut dice, c, 3);
+        let c = rng.controller();
+        assert_alike(&mut rng, c, 3);
     }
 }
 
 #[test]
 fn it_goes_through_long_runs_alike() {
-    let mut dice = Dice(0x0DD5_EED5_0F01_2345);
+    let mut rng = Rng(0x0DD5_EED5_0F01_2345);
     for _ in 0..150 {
         let mut c = ready();
-        set_inputs(&mut c, dice.coin(), dice.coin());
+        set_inputs(&mut c, rng.flag(), rng.flag());
         for number in 0..8 {
-            set_region(&mut c, number, dice.region());
+            set_region(&mut c, number, rng.region());
         }
-        assert_alike(&mut dice, c, 400);
+        assert_alike(&mut rng, c, 400);
     }
 }

@@ -5,9 +5,9 @@ use crate::helpers::*;
 use reference::model::*;
 
 /// A small generator (xorshift), so that runs repeat.
-pub struct Dice(pub u64);
+pub struct Rng(pub u64);
 
-impl Dice {
+impl Rng {
     pub fn word(&mut self) -> u32 {
         self.0 ^= self.0 << 13;
         self.0 ^= self.0 >> 7;
@@ -19,7 +19,7 @@ impl Dice {
         self.word() % bound
     }
 
-    pub fn coin(&mut self) -> bool {
+    pub fn flag(&mut self) -> bool {
         self.below(2) == 1
     }
 
@@ -36,7 +36,7 @@ impl Dice {
 
     pub fn region(&mut self) -> Region {
         Region {
-            on: self.coin(),
+            on: self.flag(),
             first_page: self.below(36),
             page_count: self.below(6),
             rights: self.below(9) as u8,
@@ -94,7 +94,7 @@ impl Dice {
             1 => InProgress::Read {
                 operation,
                 moved,
-                readable: if self.coin() {
+                readable: if self.flag() {
                     operation.count
                 } else {
                     self.number()
@@ -115,12 +115,12 @@ impl Dice {
                     c.phase = [Phase::Uninitialised, Phase::Ready, Phase::Disabled]
                         [self.below(3) as usize]
                 }
-                2 => c.provision_enabled = self.coin(),
-                3 => c.seeds_locked = self.coin(),
+                2 => c.provision_enabled = self.flag(),
+                3 => c.seeds_locked = self.flag(),
                 4 => c.regions[self.below(8) as usize] = self.region(),
                 5 => c.default_rights = self.below(9) as u8,
                 6 => c.info_settings[self.below(26) as usize] = self.info_setting(),
-                7 => c.bank_erase_permissions = [self.coin(), self.coin()],
+                7 => c.bank_erase_permissions = [self.flag(), self.flag()],
                 8 => c.recorded = self.number(),
                 9 => c.last_address = self.number(),
                 10 => c.read_queue = self.queue(),
@@ -135,30 +135,30 @@ impl Dice {
 /// One random call other than reset and RMA; gives its refusal and whether it
 /// records.
 fn random_call(
-    dice: &mut Dice,
+    rng: &mut Rng,
     c: &mut Controller,
     image: &mut [u32],
     buffer: &mut [u32],
 ) -> (u8, bool) {
-    let refusal = match dice.below(24) {
-        0 => set_inputs(c, dice.below(4) > 0, dice.coin()),
-        1 => set_region(c, dice.below(9), dice.region()),
-        2 => set_default_rights(c, dice.below(9) as u8),
+    let refusal = match rng.below(24) {
+        0 => set_inputs(c, rng.below(4) > 0, rng.flag()),
+        1 => set_region(c, rng.below(9), rng.region()),
+        2 => set_default_rights(c, rng.below(9) as u8),
         3 => set_info_page(
             c,
-            dice.below(3),
-            dice.below(4) as u8,
-            dice.below(11),
-            dice.info_setting(),
+            rng.below(3),
+            rng.below(4) as u8,
+            rng.below(11),
+            rng.info_setting(),
         ),
-        4 => set_bank_erase_permission(c, dice.below(3), dice.below(4) > 0),
+        4 => set_bank_erase_permission(c, rng.below(3), rng.below(4) > 0),
         5 => initialise(c, image).refusal,
         6 => clear(c),
-        7 => host_read(c, image, dice.below(0x2100) * 4 + dice.below(2)).refusal,
-        8 => view(c, image, dice.below(34)).refusal,
-        9 | 10 => return (start(c, dice.operation()), true),
-        11 => return (whole(c, dice.operation(), image, buffer).refusal, true),
-        12..=14 => push(c, dice.word()),
+        7 => host_read(c, image, rng.below(0x2100) * 4 + rng.below(2)).refusal,
+        8 => view(c, image, rng.below(34)).refusal,
+        9 | 10 => return (start(c, rng.operation()), true),
+        11 => return (whole(c, rng.operation(), image, buffer).refusal, true),
+        12..=14 => push(c, rng.word()),
         15..=17 => pop(c).refusal,
         _ => step(c, image).refusal,
     };
@@ -167,7 +167,7 @@ fn random_call(
 
 #[test]
 fn long_runs_stay_valid_and_refusals_leave_what_they_should() {
-    let mut dice = Dice(0x1234_5678_9ABC_DEF1);
+    let mut rng = Rng(0x1234_5678_9ABC_DEF1);
     let mut image = patterned();
     let mut c = uninitialised_with_all_rights(D);
     let mut buffer = vec![0; 300];
@@ -177,7 +177,7 @@ fn long_runs_stay_valid_and_refusals_leave_what_they_should() {
             c = uninitialised_with_all_rights(D);
         }
         let before = (c.clone(), image.clone(), buffer.clone());
-        let (refusal, records) = random_call(&mut dice, &mut c, &mut image, &mut buffer);
+        let (refusal, records) = random_call(&mut rng, &mut c, &mut image, &mut buffer);
         seen[usize::from(refusal)] += 1;
         assert!(is_valid(&c));
         if refusal == NONE {
@@ -206,20 +206,20 @@ fn long_runs_stay_valid_and_refusals_leave_what_they_should() {
 
 #[test]
 fn nonsense_states_are_answered() {
-    let mut dice = Dice(0xFEED_0BAD_CAFE_0001);
+    let mut rng = Rng(0xFEED_0BAD_CAFE_0001);
     let mut valid = 0;
     for _ in 0..5_000 {
-        let c = dice.controller();
+        let c = rng.controller();
         valid += u32::from(is_valid(&c));
         let mut image = vec![0x5555_5555; image_words(D) as usize];
         let mut after = c.clone();
-        let (refusal, _) = random_call(&mut dice, &mut after, &mut image, &mut [0; 20]);
+        let (refusal, _) = random_call(&mut rng, &mut after, &mut image, &mut [0; 20]);
         if !is_valid(&c) {
             assert_eq!(refusal, INVALID);
             assert_eq!(after, c);
         }
         rma(&mut c.clone(), &mut image);
-        reset(&mut c.clone(), dice.number());
+        reset(&mut c.clone(), rng.number());
     }
     assert!((500..4_500).contains(&valid), "{valid} were valid");
 }
@@ -227,7 +227,7 @@ fn nonsense_states_are_answered() {
 /// Runs an operation by its parts in another rhythm than the whole call:
 /// all pushes first, then steps in bursts, then pops in bursts.
 fn by_parts(
-    dice: &mut Dice,
+    rng: &mut Rng,
     c: &mut Controller,
     op: Operation,
     image: &mut [u32],
@@ -236,15 +236,15 @@ fn by_parts(
     let refusal = start(c, op);
     let (mut bits, mut pushed, mut popped) = (0, 0, 0);
     while c.in_progress != InProgress::Nothing || c.read_queue.length > 0 {
-        for _ in 0..dice.below(20) {
+        for _ in 0..rng.below(20) {
             if pushed < buffer.len() && push(c, buffer[pushed]) == NONE {
                 pushed += 1;
             }
         }
-        for _ in 0..dice.below(40) {
+        for _ in 0..rng.below(40) {
             bits += step(c, image).bits;
         }
-        for _ in 0..dice.below(20) {
+        for _ in 0..rng.below(20) {
             let given = pop(c);
             if given.refusal == NONE {
                 buffer[popped] = given.word;
@@ -257,21 +257,21 @@ fn by_parts(
 
 #[test]
 fn a_whole_operation_is_the_sum_of_its_parts() {
-    let mut dice = Dice(0x00DD_BA11_5EED);
+    let mut rng = Rng(0x00DD_BA11_5EED);
     for _ in 0..300 {
         let mut c = uninitialised_with_all_rights(D);
-        set_inputs(&mut c, dice.coin(), dice.coin());
+        set_inputs(&mut c, rng.flag(), rng.flag());
         for number in 0..8 {
-            set_region(&mut c, number, dice.region());
+            set_region(&mut c, number, rng.region());
         }
         let mut image = patterned();
         initialise(&mut c, &image);
         for _ in 0..5 {
-            let op = dice.operation();
-            let mut buffer: Vec<u32> = (0..1_024).map(|_| dice.word()).collect();
+            let op = rng.operation();
+            let mut buffer: Vec<u32> = (0..1_024).map(|_| rng.word()).collect();
             let mut parts = (c.clone(), image.clone(), buffer.clone());
             let done = whole(&mut c, op, &mut image, &mut buffer);
-            let sum = by_parts(&mut dice, &mut parts.0, op, &mut parts.1, &mut parts.2);
+            let sum = by_parts(&mut rng, &mut parts.0, op, &mut parts.1, &mut parts.2);
             assert_eq!(done, sum);
             assert_eq!(c, parts.0);
             assert!(image == parts.1 && buffer == parts.2);

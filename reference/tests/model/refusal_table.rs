@@ -53,19 +53,24 @@ fn reset_takes_any_state() {
     }
 }
 
+/// Every call that needs a controller that is ready.
+fn assert_not_ready(c: &mut Controller, image: &mut Vec<u32>, refusal: u8) {
+    let read = data(READ, 0, 1);
+    assert_refused(c, image, refusal, |c, _| start(c, read));
+    assert_refused(c, image, refusal, |c, i| step(c, i).refusal);
+    assert_refused(c, image, refusal, |c, _| push(c, 1));
+    assert_refused(c, image, refusal, |c, i| {
+        whole(c, read, i, &mut [0]).refusal
+    });
+    assert_refused(c, image, refusal, |c, i| host_read(c, i, 0).refusal);
+    assert_refused(c, image, refusal, |c, i| view(c, i, 0).refusal);
+}
+
 #[test]
 fn row_2_disabled() {
     let mut c = disabled();
     let mut image = patterned();
-    let read = data(READ, 0, 1);
-    assert_refused(&mut c, &mut image, 2, |c, _| start(c, read));
-    assert_refused(&mut c, &mut image, 2, |c, i| step(c, i).refusal);
-    assert_refused(&mut c, &mut image, 2, |c, _| push(c, 1));
-    assert_refused(&mut c, &mut image, 2, |c, i| {
-        whole(c, read, i, &mut [0]).refusal
-    });
-    assert_refused(&mut c, &mut image, 2, |c, i| host_read(c, i, 0).refusal);
-    assert_refused(&mut c, &mut image, 2, |c, i| view(c, i, 0).refusal);
+    assert_not_ready(&mut c, &mut image, 2);
     assert_refused(&mut c, &mut image, 2, |c, i| initialise(c, i).refusal);
     assert_refused(&mut c, &mut image, 2, |c, i| rma(c, i));
 }
@@ -73,16 +78,7 @@ fn row_2_disabled() {
 #[test]
 fn row_3_uninitialised() {
     let mut c = uninitialised_with_all_rights(D);
-    let mut image = patterned();
-    let read = data(READ, 0, 1);
-    assert_refused(&mut c, &mut image, 3, |c, _| start(c, read));
-    assert_refused(&mut c, &mut image, 3, |c, i| step(c, i).refusal);
-    assert_refused(&mut c, &mut image, 3, |c, _| push(c, 1));
-    assert_refused(&mut c, &mut image, 3, |c, i| {
-        whole(c, read, i, &mut [0]).refusal
-    });
-    assert_refused(&mut c, &mut image, 3, |c, i| host_read(c, i, 0).refusal);
-    assert_refused(&mut c, &mut image, 3, |c, i| view(c, i, 0).refusal);
+    assert_not_ready(&mut c, &mut patterned(), 3);
 }
 
 #[test]

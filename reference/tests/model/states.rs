@@ -238,6 +238,17 @@ fn an_operation_in_progress_has_its_own_kind() {
     }
 }
 
+/// As a read, blank or not, and as a program.
+fn assert_never_in_progress(read: Operation) {
+    assert_broken(&with_read(read, 0, read.count));
+    assert_broken(&with_read(read, 0, 0));
+    let program = Operation {
+        kind: PROGRAM,
+        ..read
+    };
+    assert_broken(&with_program(program, 0, 0));
+}
+
 #[test]
 fn an_operation_in_progress_passes_5() {
     for op in [
@@ -247,13 +258,7 @@ fn an_operation_in_progress_passes_5() {
         data(READ, 0, 0),
         data(READ, 0, 1_025),
     ] {
-        assert_broken(&with_read(op, 0, op.count));
-        assert_broken(&with_read(op, 0, 0));
-        let program = Operation {
-            kind: PROGRAM,
-            ..op
-        };
-        assert_broken(&with_program(program, 0, 0));
+        assert_never_in_progress(op);
     }
     for kind in [PAGE_ERASE, BANK_ERASE] {
         assert_broken(&with_erase(operation(kind, 2, 0, 0, 4), 0));
@@ -273,13 +278,7 @@ fn an_operation_in_progress_passes_7_and_8() {
         info(READ, 1, 0x3FC, 2),
         info(READ, 0, 0x2800, 1),
     ] {
-        assert_broken(&with_read(op, 0, op.count));
-        assert_broken(&with_read(op, 0, 0));
-        let program = Operation {
-            kind: PROGRAM,
-            ..op
-        };
-        assert_broken(&with_program(program, 0, 0));
+        assert_never_in_progress(op);
     }
     assert_broken(&with_program(data(PROGRAM, 0x3C, 2), 0, 0));
     assert_broken(&with_erase(info(PAGE_ERASE, 0, 0x2800, 0), 0));
