@@ -1,4 +1,4 @@
-//! Twins of the header's structs. Every field is a `u32`, so that the
+//! The header's structs, field for field. Every field is a `u32`, so that the
 //! controller is an array of numbers; the number of each field is asserted.
 
 use std::mem::{offset_of, size_of};
@@ -30,7 +30,7 @@ const NUMBER_BYTES: usize = size_of::<u32>();
 
 /// Declares a struct of the header; asserts how many numbers it has and which
 /// is the first of each field.
-macro_rules! twin {
+macro_rules! header_struct {
     ($name:ident, numbers $numbers:expr, { $($number:literal $field:ident: $type:ty),+ $(,)? }) => {
         #[repr(C)]
         #[derive(Clone, Copy, Debug, Default, PartialEq, Eq)]
@@ -42,7 +42,7 @@ macro_rules! twin {
     };
 }
 
-twin!(Operation, numbers 5, {
+header_struct!(Operation, numbers 5, {
     0 address: u32,
     1 count: u32,
     2 kind: u32,
@@ -50,24 +50,24 @@ twin!(Operation, numbers 5, {
     4 info_type: u32,
 });
 
-twin!(Region, numbers 4, {
+header_struct!(Region, numbers 4, {
     0 first_page: u32,
     1 page_count: u32,
     2 on: u32,
     3 rights: u32,
 });
 
-twin!(PageSetting, numbers 2, {
+header_struct!(PageSetting, numbers 2, {
     0 on: u32,
     1 rights: u32,
 });
 
-twin!(Queue, numbers 17, {
+header_struct!(Queue, numbers 17, {
     0 words: [u32; QUEUE_WORDS],
     16 length: u32,
 });
 
-twin!(Progress, numbers 8, {
+header_struct!(Progress, numbers 8, {
     0 operation: Operation,
     5 moved: u32,
     6 readable: u32,
@@ -77,7 +77,7 @@ twin!(Progress, numbers 8, {
 /// The numbers of a controller.
 pub const NUMBERS: usize = 135;
 
-twin!(Controller, numbers NUMBERS, {
+header_struct!(Controller, numbers NUMBERS, {
     0 data_pages: u32,
     1 phase: u32,
     2 provision_enabled: u32,
@@ -105,34 +105,34 @@ impl Controller {
     }
 }
 
-twin!(Seeds, numbers 17, {
+header_struct!(Seeds, numbers 17, {
     0 creator: [u32; SEED_WORDS],
     8 owner: [u32; SEED_WORDS],
     16 given: u32,
 });
 
-twin!(Initialised, numbers 18, {
+header_struct!(Initialised, numbers 18, {
     0 answer: u32,
     1 seeds: Seeds,
 });
 
-twin!(Stepped, numbers 3, {
+header_struct!(Stepped, numbers 3, {
     0 answer: u32,
     1 movement: u32,
     2 bits: u32,
 });
 
-twin!(Fetched, numbers 2, {
+header_struct!(Fetched, numbers 2, {
     0 answer: u32,
     1 word: u32,
 });
 
-twin!(Completed, numbers 2, {
+header_struct!(Completed, numbers 2, {
     0 answer: u32,
     1 bits: u32,
 });
 
-twin!(Viewed, numbers 2, {
+header_struct!(Viewed, numbers 2, {
     0 answer: u32,
     1 start: u32,
 });

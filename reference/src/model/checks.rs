@@ -1,8 +1,8 @@
 //! 01, after "When the desk says no": which checks each call makes, in order.
 
 use super::geometry::{address_end, image_words, is_aligned, BANKS, PAGE_BYTES};
-use super::judging::well_formed;
 use super::operation::{uses_count, Operation};
+use super::operation_checks::well_formed;
 use super::queue::QUEUE_WORDS;
 use super::refusals::{
     BAD_SETTING, BUSY, DENIED, DISABLED, INVALID, MALFORMED, OUT_OF_RANGE, QUEUE_EMPTY, QUEUE_FULL,
@@ -71,7 +71,7 @@ pub(super) fn check_rma(c: &Controller, image: &[u32]) -> Check {
     check_nothing_in_progress(c)
 }
 
-/// 1 to 4 of start; what follows is `judge`.
+/// 1 to 4 of start; what follows is `operation_refusal`.
 pub(super) fn check_start(c: &Controller) -> Check {
     check_valid(c)?;
     check_phase_is_ready(c)?;

@@ -3,8 +3,8 @@
 use super::answers::{Progress, Stepped, WordGiven};
 use super::checks::{check_pop, check_push, check_ready, check_start};
 use super::geometry::ONES;
-use super::judging::judge;
 use super::operation::{moving_place, words_to_move, Operation, PROGRAM, READ};
+use super::operation_checks::operation_refusal;
 use super::queue::QUEUE_WORDS;
 use super::refusals::{record, DENIED, NONE, UNEXPECTED};
 use super::state::{Controller, InProgress};
@@ -14,7 +14,7 @@ pub fn start(c: &mut Controller, operation: Operation) -> u8 {
     if let Err(refusal) = check_start(c) {
         return refusal;
     }
-    let refusal = judge(c, &operation);
+    let refusal = operation_refusal(c, &operation);
     if refusal != NONE {
         record(c, refusal, operation.address);
     }

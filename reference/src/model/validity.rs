@@ -1,8 +1,8 @@
 //! 01, "A state is ours exactly if": the validity of a state.
 
 use super::geometry::{d_in_range, BANKS};
-use super::judging::judge;
 use super::operation::{words_to_move, Operation, BANK_ERASE, PAGE_ERASE, PROGRAM, READ};
+use super::operation_checks::operation_refusal;
 use super::queue::{Queue, QUEUE_WORDS};
 use super::refusals::{bit, CROSSES_WINDOW, DENIED, MALFORMED, NONE, OUT_OF_RANGE};
 use super::rights::ALL_RIGHTS;
@@ -56,13 +56,13 @@ fn in_progress_is_valid(c: &Controller) -> bool {
         InProgress::Program { operation, moved } => {
             operation.kind == PROGRAM
                 && under_way(c, &operation, moved)
-                && judge(c, &operation) == NONE
+                && operation_refusal(c, &operation) == NONE
                 && words_pushed(moved, &c.program_queue) <= u64::from(operation.count)
         }
         InProgress::Erase { operation, moved } => {
             matches!(operation.kind, PAGE_ERASE | BANK_ERASE)
                 && under_way(c, &operation, moved)
-                && judge(c, &operation) == NONE
+                && operation_refusal(c, &operation) == NONE
                 && c.program_queue.length == 0
         }
     }
@@ -75,7 +75,7 @@ fn under_way(c: &Controller, operation: &Operation, moved: u32) -> bool {
 
 /// A denied read is there as blank, and no other read is.
 fn readable_is_valid(c: &Controller, operation: &Operation, readable: u32) -> bool {
-    match judge(c, operation) {
+    match operation_refusal(c, operation) {
         NONE => readable == operation.count,
         DENIED => readable == 0,
         _ => false,

@@ -45,7 +45,7 @@ fn valid_progress(c: &Controller) -> bool {
             moved,
             readable,
         } => {
-            let fits = match judge(c, operation) {
+            let fits = match operation_refusal(c, operation) {
                 NONE => *readable == operation.count,
                 DENIED => *readable == 0,
                 _ => false,
@@ -54,13 +54,13 @@ fn valid_progress(c: &Controller) -> bool {
         }
         InProgress::Program { operation, moved } => {
             operation.kind == PROGRAM
-                && judge(c, operation) == NONE
+                && operation_refusal(c, operation) == NONE
                 && *moved < operation.count
                 && moved + queued <= operation.count
         }
         InProgress::Erase { operation, moved } => {
             matches!(operation.kind, PAGE_ERASE | BANK_ERASE)
-                && judge(c, operation) == NONE
+                && operation_refusal(c, operation) == NONE
                 && (*moved as usize) < erased(c.data_pages, operation).len()
                 && queued == 0
         }
@@ -72,7 +72,7 @@ pub(super) fn counts(operation: &Operation) -> bool {
 }
 
 /// Checks 5, 7, 8 and 9, of a D that is right.
-pub(super) fn judge(c: &Controller, operation: &Operation) -> u8 {
+pub(super) fn operation_refusal(c: &Controller, operation: &Operation) -> u8 {
     if !well_formed(operation) {
         return MALFORMED;
     }

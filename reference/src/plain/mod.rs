@@ -14,7 +14,7 @@ use crate::model::{
     DENIED, INVALID, MALFORMED, NONE, ONES, OUT_OF_RANGE, PROGRAM, QUEUE_EMPTY, QUEUE_FULL,
     QUEUE_WORDS, READ, RIGHT_READ, SHORT_BUFFER, UNEXPECTED,
 };
-use checks::{counts, data_rights, judge, not_ready, valid};
+use checks::{counts, data_rights, not_ready, operation_refusal, valid};
 use queue::{add, take_oldest};
 use words::{erase, erased, image_words, place, program, put, read, PAGE_BYTES, WORD_BYTES};
 
@@ -28,10 +28,10 @@ pub fn start(c: &mut Controller, operation: Operation) -> u8 {
     if c.in_progress != InProgress::Nothing {
         return BUSY;
     }
-    let verdict = judge(c, &operation);
-    record(c, verdict, operation.address);
+    let refusal = operation_refusal(c, &operation);
+    record(c, refusal, operation.address);
     let moved = 0;
-    match (operation.kind, verdict) {
+    match (operation.kind, refusal) {
         (READ, NONE) => {
             c.in_progress = InProgress::Read {
                 operation,
@@ -50,7 +50,7 @@ pub fn start(c: &mut Controller, operation: Operation) -> u8 {
         (_, NONE) => c.in_progress = InProgress::Erase { operation, moved },
         _ => {}
     }
-    verdict
+    refusal
 }
 
 pub fn step(c: &mut Controller, image: &mut [u32]) -> Stepped {
@@ -169,14 +169,14 @@ pub fn whole(
     if c.in_progress != InProgress::Nothing || queued > 0 {
         return done(BUSY, 0);
     }
-    let verdict = judge(c, &operation);
+    let refusal = operation_refusal(c, &operation);
     let count = operation.count as usize;
-    if verdict != MALFORMED && counts(&operation) && buffer.len() < count {
+    if refusal != MALFORMED && counts(&operation) && buffer.len() < count {
         return done(SHORT_BUFFER, 0);
     }
-    record(c, verdict, operation.address);
+    record(c, refusal, operation.address);
     let d = c.data_pages;
-    match (operation.kind, verdict) {
+    match (operation.kind, refusal) {
         (READ, NONE) => {
             read(&mut buffer[..count], image, d, &operation);
             c.read_queue = Queue::default();
@@ -192,7 +192,7 @@ pub fn whole(
             done(NONE, program(image, &buffer[..count], d, &operation))
         }
         (_, NONE) => done(NONE, erase(&mut image[erased(d, &operation)])),
-        _ => done(verdict, 0),
+        _ => done(refusal, 0),
     }
 }
 
@@ -219,9 +219,9 @@ pub fn host_read(c: &Controller, image: &[u32], address: u32) -> WordGiven {
     }
 }
 
-fn record(c: &mut Controller, verdict: u8, address: u32) {
-    if verdict != NONE {
-        c.recorded |= 1 << verdict;
+fn record(c: &mut Controller, refusal: u8, address: u32) {
+    if refusal != NONE {
+        c.recorded |= 1 << refusal;
         c.last_address = address;
     }
 }

@@ -14,7 +14,7 @@ use super::state::Controller;
 const PROGRAM_WINDOW_BYTES: u64 = 64;
 
 /// The first refusal of 5, 7, 8 and 9 that applies.
-pub(super) fn judge(c: &Controller, operation: &Operation) -> u8 {
+pub(super) fn operation_refusal(c: &Controller, operation: &Operation) -> u8 {
     if !well_formed(operation) {
         MALFORMED
     } else if !inside(c.data_pages, operation) {
