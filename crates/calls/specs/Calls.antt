@@ -17,7 +17,6 @@ use Rattle.model.specs.declared.Inputs.{Inputs}
 use Rattle.model.specs.declared.Region.{Region}
 use Rattle.model.specs.declared.PageSetting.{PageSetting}
 use Rattle.model.specs.declared.Operation.{Operation}
-use Rattle.model.specs.declared.Controller.{Controller}
 use Rattle.model.specs.declared.Answer.{Answer}
 use Rattle.model.specs.declared.Movement.{Movement}
 use Rattle.model.specs.declared.Movement.the-variants.{None, Moved, Finished, Stalled}

@@ -6,7 +6,9 @@ ghost use Rattle.model.specs.Checks.{unaligned, badCount, malformed, pastData, 
 ghost use Rattle.model.specs.Refusals.{check};
 use model::Answer;
 use model::ByteAddress;
+use model::MAX_COUNT;
 use model::Operation;
+use model::WIDE_PAGE_BYTES;
 
 pub fn unaligned(a: ByteAddress) -> bool
     ensures { λ r. ⌜ r ≡ unaligned a ⌝ }
@@ -24,7 +26,7 @@ fn bad_count(o: Operation) -> bool
     ensures { λ r. ⌜ r ≡ badCount o ⌝ }
 {
     let none = o.count == 0;
-    let many = 1024 < o.count;
+    let many = MAX_COUNT < o.count;
     none | many
 }
 
@@ -50,7 +52,7 @@ pub fn form_answer(o: Operation) -> Answer
 pub fn past_data(d: u32, a: ByteAddress) -> bool
     ensures { λ r. ⌜ r ≡ pastData d a ⌝ }
 {
-    2 * (d as usize) * 1024 <= a.0 as usize
+    2 * (d as usize) * WIDE_PAGE_BYTES <= a.0 as usize
 }
 
 // The address past the last page that the operation may cover.
@@ -61,9 +63,9 @@ fn span_limit(d: u32, o: Operation) -> usize
         let address = o.address;
         let bank = geometry::bank_of(d, geometry::page_of(address)) as usize;
         let pages = geometry::info_count(o.info) as usize;
-        return (bank * (d as usize) + pages) * 1024;
+        return (bank * (d as usize) + pages) * WIDE_PAGE_BYTES;
     }
-    2 * (d as usize) * 1024
+    2 * (d as usize) * WIDE_PAGE_BYTES
 }
 
 // Check 7.
@@ -78,6 +80,8 @@ pub fn out_of_range(d: u32, o: Operation) -> bool
     past | (!bank_erase & (limit < end))
 }
 
+const WINDOW_BYTES: usize = 64;
+
 // Check 8, of an operation that passes check 5: a program has a last byte.
 pub fn crosses_window(o: Operation) -> bool
     requires { ⌜ malformed o ≡ false ⌝ }
@@ -87,7 +91,7 @@ pub fn crosses_window(o: Operation) -> bool
         let address = o.address;
         let first = address.0 as usize;
         let last = first + 4 * (o.count as usize) - 1;
-        return first / 64 != last / 64;
+        return first / WINDOW_BYTES != last / WINDOW_BYTES;
     }
     false
 }

@@ -4,19 +4,26 @@ ghost use Prim.Native.Nat.{_+_, _<_, _≤_};
 ghost use Rattle.model.specs.Geometry.{pagesFit, imageWords, infoCount, infoFirst, infoIndex, dataImagePage, infoImagePage, firstWord, pageOf, pageStart, bankOf, pageInBank, wordInPage, imagePage, wordAt, specialPage};
 use model::BusWord;
 use model::ByteAddress;
+use model::INFO_PAGES;
 use model::ImagePage;
+use model::MAX_PAGES;
+use model::MIN_PAGES;
+use model::PAGE_BYTES;
+use model::PAGE_WORDS;
 use model::Page;
+use model::WIDE_INFO_PAGES;
+use model::WIDE_PAGE_WORDS;
 
 pub fn pages_fit(d: u32) -> bool
     ensures { λ r. ⌜ r ≡ pagesFit d ⌝ }
 {
-    (10 <= d) & (d <= 256)
+    (MIN_PAGES <= d) & (d <= MAX_PAGES)
 }
 
 pub fn image_words(d: u32) -> usize
     ensures { λ r. ⌜ r ≡ imageWords d ⌝ }
 {
-    2 * (d as usize + 13) * 256
+    2 * (d as usize + WIDE_INFO_PAGES) * WIDE_PAGE_WORDS
 }
 
 // How many information pages of type `t` a bank has.
@@ -39,7 +46,7 @@ pub fn info_first(t: u8) -> u32
         0 => 0,
         1 => 10,
         2 => 11,
-        3..=255 => 13,
+        3..=255 => INFO_PAGES,
     }
 }
 
@@ -47,20 +54,20 @@ pub fn info_first(t: u8) -> u32
 pub fn info_index(bank: u32, t: u8, page: u32) -> usize
     ensures { λ r. ⌜ r ≡ infoIndex bank t page ⌝ }
 {
-    bank as usize * 13 + (info_first(t) as usize + page as usize)
+    bank as usize * WIDE_INFO_PAGES + (info_first(t) as usize + page as usize)
 }
 
 pub fn page_of(a: ByteAddress) -> Page
     ensures { λ r. ⌜ (r ≡ pageOf a) × (r .0 < 4194304) ⌝ }
 {
-    Page(a.0 / 1024)
+    Page(a.0 / PAGE_BYTES)
 }
 
 pub fn page_start(p: Page) -> ByteAddress
     requires { ⌜ p .0 < 4194304 ⌝ }
     ensures { λ r. ⌜ r ≡ pageStart p ⌝ }
 {
-    ByteAddress(p.0 * 1024)
+    ByteAddress(p.0 * PAGE_BYTES)
 }
 
 pub fn bank_of(d: u32, p: Page) -> u32
@@ -80,7 +87,7 @@ pub fn page_in_bank(d: u32, p: Page) -> u32
 pub fn word_in_page(a: ByteAddress) -> u32
     ensures { λ r. ⌜ (r ≡ wordInPage a) × (r < 256) ⌝ }
 {
-    a.0 % 1024 / 4
+    a.0 % PAGE_BYTES / 4
 }
 
 // A bank has at most 269 pages.
@@ -88,7 +95,7 @@ pub fn data_image_page(d: u32, bank: u32, page: u32) -> ImagePage
     requires { ⌜ (d ≤ 256) × (bank ≤ 1) × (page < 4194304) ⌝ }
     ensures { λ r. ⌜ (r ≡ dataImagePage d bank page) × (r .0 ≤ 269 + page) ⌝ }
 {
-    ImagePage(bank * (d + 13) + page)
+    ImagePage(bank * (d + INFO_PAGES) + page)
 }
 
 // The information pages of a bank come after its D data pages.
@@ -118,7 +125,7 @@ pub fn first_word(q: ImagePage) -> BusWord
     requires { ⌜ q .0 < 16777216 ⌝ }
     ensures { λ r. ⌜ r ≡ firstWord q ⌝ }
 {
-    BusWord(q.0 * 256)
+    BusWord(q.0 * PAGE_WORDS)
 }
 
 // The bus word of the image that a byte address means.

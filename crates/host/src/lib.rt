@@ -15,6 +15,7 @@ use calls::ToldWord;
 use model::Answer;
 use model::ByteAddress;
 use model::Page;
+use model::WIDE_PAGE_WORDS;
 use registers::Registers;
 
 // The read right (1) of a data page decides.
@@ -111,7 +112,7 @@ pub fn view<'a>(s: &Registers, image: &'a [u32], p: Page, refusal: &mut u8) -> &
     *refusal = refusals::number_of(answer);
     if accepted {
         let start = page_start(s, p) as usize;
-        let end = start + 256;
+        let end = start + WIDE_PAGE_WORDS;
         return &image[start..end];
     }
     &image[0..0]

@@ -10,6 +10,8 @@ ghost use Rattle.calls.specs.Calls.{resetIn, initialiseIn, rmaIn};
 use calls::ToldSeeds;
 use model::Answer;
 use model::BusWord;
+use model::CREATOR_PAGE;
+use model::OWNER_PAGE;
 use model::Phase;
 use registers::Registers;
 
@@ -71,13 +73,18 @@ fn no_seeds(answer: u32) -> ToldSeeds
     }
 }
 
-// The creator seed page is 1, the owner seed page 2.
 fn seeds_of(d: u32, image: &[u32]) -> ToldSeeds
     requires { ⌜ (d ≤ 256) × (length (now image) ≡ imageWords d) ⌝ }
     ensures { λ r. ⌜ r ≡ record { answer = 0; creator = seedAt d creatorPage (flash (now (image .entry))); owner = seedAt d ownerPage (flash (now (image .entry))); given = 1 } ⌝ }
 {
-    let creator = seed(image, geometry::first_word(geometry::special_page(d, 1)));
-    let owner = seed(image, geometry::first_word(geometry::special_page(d, 2)));
+    let creator = seed(
+        image,
+        geometry::first_word(geometry::special_page(d, CREATOR_PAGE)),
+    );
+    let owner = seed(
+        image,
+        geometry::first_word(geometry::special_page(d, OWNER_PAGE)),
+    );
     ToldSeeds {
         answer: 0,
         creator,

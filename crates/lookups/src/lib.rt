@@ -3,7 +3,7 @@ ghost use mathlib.Core.Path.{_≡_};
 ghost use mathlib.Core.Bool.{false, not};
 ghost use Prim.Native.Nat.{_+_, _<_, _≤_, _%_};
 ghost use lib.ListN.{getD};
-ghost use Rattle.model.specs.Rights.{dataRights, infoRights, pageRights, rightsAt, pageGrants, leading, allowedWords, denied};
+ghost use Rattle.model.specs.Rights.{dataRights, infoRights, rightsAt, pageGrants, leading, allowedWords, denied};
 ghost use Rattle.model.specs.Places.{spanWords};
 ghost use mathlib.Core.Bool.{cond};
 ghost use Rattle.model.specs.Refusals.{isDenied};
@@ -12,7 +12,10 @@ ghost use Rattle.model.specs.State.{pageOff};
 ghost use Rattle.registers.specs.Layout.{defaultAt};
 ghost use Rattle.registers.specs.Registers.{regionsOf, infoOf, settingsOf, inputsAt, standsFor};
 use model::Answer;
+use model::INFO_SETTINGS;
 use model::Operation;
+use model::PAGE_BYTES;
+use model::PAGE_WORDS;
 use model::Page;
 use model::PageSetting;
 use registers::Registers;
@@ -37,7 +40,7 @@ fn data_rights(s: &Registers, p: Page) -> u8
 fn page_setting(s: &Registers, page: usize) -> PageSetting
     ensures { λ r. ⌜ r ≡ getD (infoOf (now (s .entry))) page pageOff ⌝ }
 {
-    if page < 26 {
+    if page < INFO_SETTINGS {
         return registers::page_setting(s, page);
     }
     PageSetting {
@@ -69,21 +72,22 @@ pub fn rights_at(s: &Registers, information: bool, t: u8, p: Page) -> u8
     data_rights(s, p)
 }
 
-fn page_grants(s: &Registers, o: Operation, p: u32) -> bool
+fn page_grants(s: &Registers, o: Operation, p: Page) -> bool
     ensures { λ r. ⌜ r ≡ pageGrants (standsFor (now (s .entry)) .setup) o p ⌝ }
 {
     let information = places::is_information(o);
-    let rights = rights_at(s, information, o.info, Page(p));
+    let rights = rights_at(s, information, o.info, p);
     rights::grants(rights, places::right_needed(o))
 }
 
-fn leading_pages(s: &Registers, o: Operation, from: u32, count: u32) -> u32
-    requires { ⌜ from + count < 4294967296 ⌝ }
+// How many of the `count` pages from `from` on have the right before the first that has not.
+fn leading_pages(s: &Registers, o: Operation, from: Page, count: u32) -> u32
+    requires { ⌜ from .0 + count < 4294967296 ⌝ }
     ensures { λ r. ⌜ (r ≡ leading (pageGrants (standsFor (now (s .entry)) .setup) o) from count) × (r ≤ count) ⌝ }
 {
     let mut i: u32 = 0;
     while i < count {
-        if !page_grants(s, o, from + i) {
+        if !page_grants(s, o, Page(from.0 + i)) {
             return i;
         }
         i += 1;
@@ -91,15 +95,18 @@ fn leading_pages(s: &Registers, o: Operation, from: u32, count: u32) -> u32
     i
 }
 
+// Added before a division by the page's bytes, it rounds up.
+const LAST_BYTE: u32 = PAGE_BYTES - 1;
+
 fn allowed_words(s: &Registers, o: Operation) -> u32
     requires { ⌜ spanWords o < 1048576 ⌝ }
     ensures { λ r. ⌜ r ≡ allowedWords (standsFor (now (s .entry)) .setup) o ⌝ }
 {
     let start = places::span_start(o);
     let words = places::span_words(o);
-    let pages = (start.0 % 1024 + 4 * words + 1023) / 1024;
+    let pages = (start.0 % PAGE_BYTES + 4 * words + LAST_BYTE) / PAGE_BYTES;
     let first = geometry::page_of(start);
-    let lead = leading_pages(s, o, first.0, pages) * 256;
+    let lead = leading_pages(s, o, first, pages) * PAGE_WORDS;
     let skipped = geometry::word_in_page(start);
     if lead <= skipped {
         return 0;

@@ -15,7 +15,7 @@ use Rattle.model.specs.Kinds.{isRead, isBankErase}
 use Rattle.model.specs.Queue.{isEmpty, isFull, pushed}
 use Rattle.model.specs.State.{Flash, withQueues, withPrograms, isBusy}
 use Rattle.model.specs.Rights.{readableWords}
-use Rattle.model.specs.Refusals.{accepts, isDenied, check, orElse, readyAnswer}
+use Rattle.model.specs.Refusals.{accepts, isDenied, check, orElse, readyAnswer, refused}
 use Rattle.model.specs.Checks.{operationAnswer}
 use Rattle.model.specs.Settings.{settingAnswer}
 use Rattle.model.specs.Valid.{valid, validWith}
@@ -31,7 +31,6 @@ use Rattle.model.specs.declared.Movement.the-variants.{None, Stalled}
 use Rattle.model.specs.declared.Phase.{Phase}
 use Rattle.model.specs.declared.Answer.{Answer}
 use Rattle.model.specs.declared.Answer.the-variants.{Accepted, Invalid, QueueEmpty, QueueFull, Unexpected, Busy, BadSetting}
-use Rattle.model.specs.Order.{refusedOutcome}
 use Rattle.model.proofs.Work.{the-type}
 use Rattle.model.proofs.Bool.{which}
 use Rattle.model.proofs.Places.{span-address-fits, bank-words-le}
@@ -63,13 +62,13 @@ ready-valid v p h = not-false v (check-passed (not v) Invalid refl (both-accept 
 module _ (c : Controller) (w : ℕ) where
   -- Refused by checks 1, 2 and 3,
   pub push-unready : accepts (readyAnswer (valid c) (c .phase)) ≡ false
-      → refusedOutcome c (readyAnswer (valid c) (c .phase)) ≡ push c w
+      → refused c (readyAnswer (valid c) (c .phase)) ≡ push c w
   unfolding push
   push-unready h = simp h
 
   -- or by 12 and 11,
   pub push-refused : (a : Answer) → accepts (readyAnswer (valid c) (c .phase)) ≡ true → pushAnswer c (c .progress) ≡ a
-      → accepts a ≡ false → refusedOutcome c a ≡ push c w
+      → accepts a ≡ false → refused c a ≡ push c w
   unfolding push
   push-refused a h e n = simp (h, e, n)
 

@@ -19,7 +19,7 @@ use Rattle.model.specs.Lifecycle.{initialiseAnswer, initialise, rmaAnswe
 use Rattle.model.specs.Steps.{startAnswer, start, push, popAnswer, pop, step}
 use Rattle.model.specs.Host.{unreadable, hostAnswer, hostRead, viewAnswer, view}
 use Rattle.model.specs.Whole.{wholeAnswer, drive, whole}
-use Rattle.model.specs.Order.{refusedOutcome, refusedWhole, refusedInitialise, FlashCallsRefuse, ReadyCallsRefuse, PhaseCallsRefuse, SettingsRefuse, RecordCallsRefuse}
+use Rattle.model.specs.Order.{FlashCallsRefuse, ReadyCallsRefuse, PhaseCallsRefuse, SettingsRefuse, RecordCallsRefuse}
 use Rattle.model.specs.declared.Page.{Page}
 use Rattle.model.specs.declared.ByteAddress.{ByteAddress}
 use Rattle.model.specs.declared.Operation.{Operation}
@@ -45,7 +45,7 @@ then-disabled = refl
 pub then-uninitialised : readyAnswer true phase.Uninitialised ≡ Uninitialised
 then-uninitialised = refl
 
--- Whichever of them applies answers every call that needs a ready controller, and leaves all unchanged.
+-- Whichever of them applies answers every call that needs a ready controller.
 pub flash-calls : (c : Controller) (f : Flash) (a : Answer) → readyAnswer (validWith c f) (c .phase) ≡ a → accepts a ≡ false
     → FlashCallsRefuse c f a
 unfolding step whole wholeAnswer hostAnswer hostRead viewAnswer view
@@ -80,7 +80,7 @@ unfolding initialise initialiseAnswer rma rmaAnswer
 phase-disabled c f h p = record { initialises = rw (h, p); rmas = rw (h, p) }
 
 pub initialise-ready : (c : Controller) (f : Flash) → validWith c f ≡ true → c .phase ≡ phase.Ready
-    → initialise c f ≡ refusedInitialise c Unexpected
+    → initialise c f .answer ≡ Unexpected
 unfolding initialise initialiseAnswer
 initialise-ready c f h p = rw (h, p)
 
@@ -101,18 +101,18 @@ record-invalid c h = record { pops = rw h; clears = rw h }
 -- ---- 4: an operation in progress, before 5 and before 13
 
 pub start-busy : (c : Controller) (o : Operation) (w : Work) → valid c ≡ true → c .phase ≡ phase.Ready → c .progress ≡ Running w
-    → start c o ≡ refusedOutcome c Busy
+    → start c o .answer ≡ Busy
 unfolding start startAnswer
 start-busy c o w h p r = rw (h, p, r)
 
 pub whole-busy : (c : Controller) (f : Flash) (o : Operation) (b : List ℕ) → validWith c f ≡ true → c .phase ≡ phase.Ready
     → (isBusy (c .progress) || not (bothEmpty (c .queues))) ≡ true
-    → whole c f o b ≡ record { result = refusedWhole c Busy; flash = f; buffer = b }
+    → whole c f o b .result .answer ≡ Busy
 unfolding whole wholeAnswer
 whole-busy c f o b h p q = rw (h, p, q)
 
 pub rma-busy : (c : Controller) (f : Flash) (w : Work) → validWith c f ≡ true → c .phase ≡ phase.Ready → c .progress ≡ Running w
-    → rma c f ≡ record { result = refusedOutcome c Busy; flash = f }
+    → rma c f .result .answer ≡ Busy
 unfolding rma rmaAnswer
 rma-busy c f w h p r = rw (h, p, r)
 
@@ -160,7 +160,7 @@ module _ (c : Controller) (o : Operation) where
   malformed-before-short f b g s h = simp (g, s, h, and-false)
 
   pub short-before-range : (f : Flash) (b : List ℕ) → accepts (wholeAnswer c f) ≡ true → malformed o ≡ false → usesCount o ≡ true
-      → ltb (length b) (o .count) ≡ true → whole c f o b ≡ record { result = refusedWhole c ShortBuffer; flash = f; buffer = b }
+      → ltb (length b) (o .count) ≡ true → whole c f o b .result .answer ≡ ShortBuffer
   unfolding whole
   short-before-range f b g h u l = rw (g, h, u, l)
 

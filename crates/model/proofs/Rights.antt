@@ -51,61 +51,68 @@ pub undecided-all : {l : List Region} {other : ℕ} {p : Page} {i : ℕ} → len
 unfolding dataRights
 undecided-all {l = l} h u = rw (drop-of-length-le l h) at (u .same)
 
--- ---- the numbers that pass a test before the first that fails
+-- ---- the pages that pass a test before the first that fails
 
--- The first i of n numbers pass.
-pub record Passed (test : ℕ → Bool) (from n i : ℕ) : Type 0 where
-  pub so-far : leading test from n ≡ i + leading test (from + i) (n - i)
+-- The page i pages after page `from`.
+abbrev pub after : ℕ → ℕ → Page
+after from i = record { 0 = from + i }
 
-pub passed-none : {test : ℕ → Bool} {from n : ℕ} → Passed test from n 0
+-- The first i of n pages pass.
+pub record Passed (test : Page → Bool) (from n i : ℕ) : Type 0 where
+  pub so-far : leading test (record { 0 = from }) n ≡ i + leading test (after from i) (n - i)
+
+pub passed-none : {test : Page → Bool} {from n : ℕ} → Passed test from n 0
 passed-none {test} {from} {n} = record { so-far = rw (add-zero, sub-zero) (omega arith) }
 
-next : (test : ℕ → Bool) (from n m : ℕ) → n ≡ suc m → leading test from n ≡ cond (test from) (suc (leading test (from + 1) m)) 0
+next : (test : Page → Bool) (p : Page) (n m : ℕ) → n ≡ suc m → leading test p n ≡ cond (test p) (suc (leading test (after (p .0) 1) m)) 0
 unfolding leading
-next test from n m e = rw e
+next test p n m e = rw e
 
-pub passed-more : {test : ℕ → Bool} {from n i : ℕ} → i < n → Passed test from n i → test (from + i) ≡ true → Passed test from n (i + 1)
+pub passed-more : {test : Page → Bool} {from n i : ℕ} → i < n → Passed test from n i → test (after from i) ≡ true → Passed test from n (i + 1)
 passed-more {test} {from} {n} {i} h t e =
-    let step : leading test (from + i) (n - i) ≡ suc (leading test (from + i + 1) (n - (i + 1))) =
-    next test (from + i) (n - i) (n - (i + 1)) (omega arith) ∙ rw e in
+    let step : leading test (after from i) (n - i) ≡ suc (leading test (after (from + i) 1) (n - (i + 1))) =
+    next test (after from i) (n - i) (n - (i + 1)) (omega arith) ∙ rw e in
     record { so-far = rw (← add-assoc from i 1) (omega (arith, t .so-far, step)) }
 
--- Number i is the first that fails, or all have passed.
-pub passed-until : {test : ℕ → Bool} {from n i : ℕ} → i < n → Passed test from n i → test (from + i) ≡ false → i ≡ leading test from n
+-- Page i is the first that fails, or all have passed.
+pub passed-until : {test : Page → Bool} {from n i : ℕ} → i < n → Passed test from n i → test (after from i) ≡ false
+    → i ≡ leading test (record { 0 = from }) n
 passed-until {test} {from} {n} {i} h t e =
-    let step : leading test (from + i) (n - i) ≡ 0 = next test (from + i) (n - i) (n - (i + 1)) (omega arith) ∙ rw e in
+    let step : leading test (after from i) (n - i) ≡ 0 = next test (after from i) (n - i) (n - (i + 1)) (omega arith) ∙ rw e in
     omega (arith, t .so-far, step)
 
-ended : (test : ℕ → Bool) (from n : ℕ) → n ≡ 0 → leading test from n ≡ 0
+ended : (test : Page → Bool) (p : Page) (n : ℕ) → n ≡ 0 → leading test p n ≡ 0
 unfolding leading
-ended test from n e = rw e
+ended test p n e = rw e
 
-pub passed-all : {test : ℕ → Bool} {from n i : ℕ} → i ≡ n → Passed test from n i → i ≡ leading test from n
+pub passed-all : {test : Page → Bool} {from n i : ℕ} → i ≡ n → Passed test from n i → i ≡ leading test (record { 0 = from }) n
 passed-all {test} {from} {n} {i} h t =
-    let rest : leading test (from + i) (n - i) ≡ 0 = ended test (from + i) (n - i) (omega arith) in
+    let rest : leading test (after from i) (n - i) ≡ 0 = ended test (after from i) (n - i) (omega arith) in
     omega (arith, t .so-far, rest)
 
--- Of the numbers that pass before the first that fails, each passes.
-pub leading-passed : (test : ℕ → Bool) (from n i : ℕ) → i < leading test from n → test (from + i) ≡ true
+-- Of the pages that pass before the first that fails, each passes.
+pub leading-passed : (test : Page → Bool) (from n i : ℕ) → i < leading test (record { 0 = from }) n → test (after from i) ≡ true
 unfolding leading
 leading-passed test from zero i h = absurd (omega arith)
 leading-passed test from (suc n) zero h =
-    by-test (test from) (λ t. rw add-zero t) (λ t. absurd (omega (arith, rw t at h)))
+    by-test (test (record { 0 = from })) (λ t. rw add-zero t) (λ t. absurd (omega (arith, rw t at h)))
 leading-passed test from (suc n) (suc i) h =
     let e : from + suc i ≡ from + 1 + i = omega arith in
-    by-test (test from)
+    by-test (test (record { 0 = from }))
     (λ t. rw e (leading-passed test (from + 1) n i (omega (arith, rw t at h))))
     (λ t. absurd (omega (arith, rw t at h)))
 
--- The first number after the ones that pass, if it is among the n, fails.
-pub leading-failed : (test : ℕ → Bool) (from n : ℕ) → leading test from n < n → test (from + leading test from n) ≡ false
+-- The first page after the ones that pass, if it is among the n, fails.
+pub leading-failed : (test : Page → Bool) (from n : ℕ) → leading test (record { 0 = from }) n < n
+    → test (after from (leading test (record { 0 = from }) n)) ≡ false
 unfolding leading
 leading-failed test from zero h = absurd (omega arith)
 leading-failed test from (suc n) h =
-    by-test (test from)
+    by-test (test (record { 0 = from }))
     (λ t.
-    let fewer : leading test (from + 1) n < n = omega (arith, rw t at h) in
-    let e : from + suc (leading test (from + 1) n) ≡ from + 1 + leading test (from + 1) n = omega arith in
+    let rest : ℕ = leading test (after from 1) n in
+    let fewer : rest < n = omega (arith, rw t at h) in
+    let e : from + suc rest ≡ from + 1 + rest = omega arith in
     rw (t, e) (leading-failed test (from + 1) n fewer))
     (λ t. rw (t, add-zero) t)
 
@@ -113,7 +120,7 @@ leading-failed test from (suc n) h =
 
 -- The span check from its parts, each known by an equation.
 pub allowed-by : (s : Setup) (o : Operation) {a : ByteAddress} {p : Page} {w l k : ℕ} → a ≡ spanStart o → w ≡ spanWords o
-    → p ≡ pageOf a → l ≡ leading (pageGrants s o) (p .0) ((a .0 % 1024 + 4 * w + 1023) / 1024) → k ≡ wordInPage a
+    → p ≡ pageOf a → l ≡ leading (pageGrants s o) p ((a .0 % 1024 + 4 * w + 1023) / 1024) → k ≡ wordInPage a
     → min w (l * 256 - k) ≡ allowedWords s o
 unfolding allowedWords
 allowed-by s o ea ew ep el ek = rw (ek, el, ep, ew, ea)
@@ -131,11 +138,11 @@ pub all-before : (w a k : ℕ) → w ≤ a - k → w ≡ min w (a - k)
 all-before w a k h = sym (min-eq-left h)
 
 -- Each word before the first page without the right lies on a page with it.
-pub before-granted : (s : Setup) (o : Operation) (k : ℕ) → k < allowedWords s o → pageGrants s o (pageOf (spanAddress o k) .0) ≡ true
+pub before-granted : (s : Setup) (o : Operation) (k : ℕ) → k < allowedWords s o → pageGrants s o (pageOf (spanAddress o k)) ≡ true
 unfolding allowedWords
 before-granted s o k l =
     let from : ℕ = spanStart o .0 in
-    let passed : ℕ = leading (pageGrants s o) (from / 1024) (spanPages o) in
+    let passed : ℕ = leading (pageGrants s o) (record { 0 = from / 1024 }) (spanPages o) in
     let most : min (spanWords o) (passed * 256 - from % 1024 / 4) ≤ passed * 256 - from % 1024 / 4 = min-le-right _ _ in
     let i : ℕ = (from % 1024 + 4 * k) / 1024 in
     let e : (from + 4 * k) / 1024 ≡ from / 1024 + i = omega arith in
@@ -150,11 +157,11 @@ least-below w a h =
 
 -- The word after these, if it is one of the span's, lies on a page without the right.
 pub first-denied : (s : Setup) (o : Operation) → allowedWords s o < spanWords o
-    → pageGrants s o (pageOf (spanAddress o (allowedWords s o)) .0) ≡ false
+    → pageGrants s o (pageOf (spanAddress o (allowedWords s o))) ≡ false
 unfolding allowedWords
 first-denied s o l =
     let from : ℕ = spanStart o .0 in
-    let passed : ℕ = leading (pageGrants s o) (from / 1024) (spanPages o) in
+    let passed : ℕ = leading (pageGrants s o) (record { 0 = from / 1024 }) (spanPages o) in
     let least : allowedWords s o ≡ passed * 256 - from % 1024 / 4 = least-below _ _ l in
     let e : (from + 4 * allowedWords s o) / 1024 ≡ from / 1024 + passed = omega arith in
     rw e (leading-failed (pageGrants s o) (from / 1024) (spanPages o) (omega arith))
@@ -163,7 +170,7 @@ first-denied s o l =
 
 -- Each page with a word of a span that is not denied grants the right.
 pub span-granted : (s : Setup) (o : Operation) (k : ℕ) → isBankErase o ≡ false → denied s o ≡ false → k < spanWords o
-    → pageGrants s o (pageOf (spanAddress o k) .0) ≡ true
+    → pageGrants s o (pageOf (spanAddress o k)) ≡ true
 unfolding denied
 span-granted s o k b h l =
     let fits : spanWords o ≤ allowedWords s o = ltb-false _ _ (rw b at h) in
@@ -171,7 +178,7 @@ span-granted s o k b h l =
 
 -- A span that is denied has a word on a page without the right.
 pub denied-has-one : (s : Setup) (o : Operation) → isBankErase o ≡ false → denied s o ≡ true
-    → (k : ℕ) × ((k < spanWords o) × (pageGrants s o (pageOf (spanAddress o k) .0) ≡ false))
+    → (k : ℕ) × ((k < spanWords o) × (pageGrants s o (pageOf (spanAddress o k)) ≡ false))
 unfolding denied
 denied-has-one s o b h =
     let l : allowedWords s o < spanWords o = ltb-true _ _ (rw b at h) in

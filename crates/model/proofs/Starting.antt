@@ -9,7 +9,6 @@ use Rattle.model.specs.Kinds.{isRead, isProgram, isPageErase, isBankEras
 use Rattle.model.specs.Places.{totalWords}
 use Rattle.model.specs.Queue.{isEmpty}
 use Rattle.model.specs.Rights.{readableWords}
-use Rattle.model.specs.Refusals.{numberOf}
 use Rattle.model.specs.Checks.{malformed, operationAnswer}
 use Rattle.model.specs.Errors.{isRecorded, joined, recorded}
 use Rattle.model.specs.Steps.{workOf, starts}
@@ -20,7 +19,6 @@ use Rattle.model.specs.declared.Operation.{Operation}
 use Rattle.model.specs.declared.Work.the-variants.{Read, Program, Erase}
 use Rattle.model.specs.declared.Setup.{Setup}
 use Rattle.model.specs.declared.Controller.{Controller}
-use Rattle.model.specs.declared.Answer.{Answer}
 use Rattle.model.proofs.Bool.{by-test}
 use Rattle.model.proofs.Checks.{well-formed, count-bound}
 use Rattle.model.proofs.Order.{malformed-first}
@@ -35,15 +33,15 @@ or-joins false true rest rest' f h = refl
 or-joins false false rest rest' f h = f h
 
 -- A record that fits still does after an answer.
-pub recorded-fits : (a : Answer) (at : ByteAddress) (e : Errors) → errorsFit e ≡ true → errorsFit (recorded a at e) ≡ true
+pub recorded-fits : (n : ℕ) (at : ByteAddress) (e : Errors) → errorsFit e ≡ true → errorsFit (recorded n at e) ≡ true
 unfolding recorded
-recorded-fits a at e h = by-test (isRecorded (numberOf a)) (λ r. rw r (rw (joins r))) (λ r. rw r h)
+recorded-fits n at e h = by-test (isRecorded n) (λ r. rw r (rw (joins r))) (λ r. rw r h)
   where
-    joins : isRecorded (numberOf a) ≡ true → anyRecorded (joined (numberOf a) at e) ≡ true
+    joins : isRecorded n ≡ true → anyRecorded (joined n at e) ≡ true
     joins =
-        or-joins (e .malformed) (eqb (numberOf a) 5) _ _
-        (or-joins (e .range) (eqb (numberOf a) 7) _ _
-        (or-joins (e .window) (eqb (numberOf a) 8) _ _ λ r. rw r (or-true (e .denied))))
+        or-joins (e .malformed) (eqb n 5) _ _
+        (or-joins (e .range) (eqb n 7) _ _
+        (or-joins (e .window) (eqb n 8) _ _ λ r. rw r (or-true (e .denied))))
 
 -- ---- the operation that starts
 

@@ -8,11 +8,10 @@ use Rattle.model.specs.Places.{placeOf}
 use Rattle.model.specs.Queue.{oldest}
 use Rattle.model.specs.State.{Flash, stored, withWord}
 use Rattle.model.specs.Rights.{readableWords}
-use Rattle.model.specs.Refusals.{numberOf, accepts, isDenied, readyAnswer}
+use Rattle.model.specs.Refusals.{numberOf, accepts, isDenied, readyAnswer, refused}
 use Rattle.model.specs.Checks.{operationAnswer}
 use Rattle.model.specs.Valid.{validWith}
 use Rattle.model.specs.Steps.{startAnswer, workOf, started, start, stalls, advance, still, stepProgress, step}
-use Rattle.model.specs.Order.{refusedOutcome}
 use Rattle.model.specs.declared.Operation.{Operation}
 use Rattle.model.specs.declared.Work.{Work}
 use Rattle.model.specs.declared.Work.the-variants.{Read, Program, Erase}
@@ -39,7 +38,7 @@ module _ (c : Controller) (o : Operation) where
   unfolding start
   start-goes-on h = rw h
 
-  pub start-stops : accepts (startAnswer c) ≡ false → start c o ≡ refusedOutcome c (startAnswer c)
+  pub start-stops : accepts (startAnswer c) ≡ false → start c o ≡ refused c (startAnswer c)
   unfolding start
   start-stops h = rw h
 

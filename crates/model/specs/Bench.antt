@@ -6,7 +6,7 @@ use lib.Dec.{eqb}
 use lib.ListN.{replicate}
 use Rattle.model.specs.Geometry.{infoCount, byteAddress, firstWord, dataImagePage, specialPage, creatorPage}
 use Rattle.model.specs.Words.{allOnes}
-use Rattle.model.specs.State.{Flash, flash, Leaves, stored, freshController}
+use Rattle.model.specs.State.{Flash, flash, Leaves, stored, resetController}
 use Rattle.model.specs.Refusals.{numberOf}
 use Rattle.model.specs.Settings.{setInputs, setRegion, setDefault, setInfo, setErase}
 use Rattle.model.specs.Lifecycle.{reset, initialise}
@@ -37,7 +37,7 @@ allRights d locked =
     openBank 1
     (openBank 0
     (setDefault
-    (setInputs (reset (freshController 0) d .controller) (record { provision = true; locked = locked }) .controller)
+    (setInputs (reset (resetController 0) d .controller) (record { provision = true; locked = locked }) .controller)
     7 .controller))
 
 abbrev pub ready : ℕ → Controller → Controller

@@ -3,13 +3,13 @@ use Prim.Native.Nat.{ℕ}
 use mathlib.Core.Bool.{Bool, _||_, not, cond}
 use lib.Dec.{eqb}
 use Rattle.model.specs.State.{withErrors, noErrors}
-use Rattle.model.specs.Refusals.{numberOf, check, settle}
+use Rattle.model.specs.Refusals.{check, settle}
 use Rattle.model.specs.Valid.{valid}
 use Rattle.model.specs.declared.ByteAddress.{ByteAddress}
 use Rattle.model.specs.declared.Errors.{Errors}
+use Rattle.model.specs.declared.Operation.{Operation}
 use Rattle.model.specs.declared.Controller.{Controller}
 use Rattle.model.specs.declared.Outcome.{Outcome}
-use Rattle.model.specs.declared.Answer.{Answer}
 use Rattle.model.specs.declared.Answer.the-variants.{Invalid}
 
 -- Refusals 5, 7, 8 and 9 of an operation are recorded.
@@ -26,9 +26,13 @@ joined n a e = record {
   address = a;
 }
 
--- The record after an answer (01: recorded): any other answer leaves it as it was.
-unfoldable pub recorded : Answer → ByteAddress → Errors → Errors
-recorded answer a e = cond (isRecorded (numberOf answer)) (joined (numberOf answer) a e) e
+-- The record after an answer, by its number (01: recorded): any other answer leaves it as it was.
+unfoldable pub recorded : ℕ → ByteAddress → Errors → Errors
+recorded n a e = cond (isRecorded n) (joined n a e) e
+
+-- The controller after an operation's answer, before anything starts.
+abbrev pub withRecorded : Controller → ℕ → Operation → Controller
+withRecorded c n o = withErrors c (recorded n (o .address) (c .errors))
 
 -- Clearing checks 1 only. It leaves no kinds and a last address of 0.
 unfoldable pub clear : Controller → Outcome

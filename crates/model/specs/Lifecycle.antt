@@ -1,12 +1,12 @@
 -- Reset, initialise with the seeds, and RMA. (01, 'Phases')
-use Prim.Native.Nat.{ℕ, suc, _%_}
+use Prim.Native.Nat.{ℕ, suc}
 use mathlib.Core.Bool.{Bool, true, false, _&&_, _||_, not, cond}
 use mathlib.Core.List.{List, [], _∷_}
 use lib.Dec.{eqb}
 use lib.ListN.{take, drop, replicate}
 use Rattle.model.specs.Geometry.{pagesFit, firstWord, imagePageOf, isData, specialPage, creatorPage, ownerPage, isolatedPage}
 use Rattle.model.specs.Words.{allOnes}
-use Rattle.model.specs.State.{Flash, flash, Leaves, withPhase, withQueues, emptyQueues, freshController, isReady, isBusy}
+use Rattle.model.specs.State.{Flash, flash, Leaves, withPhase, withQueues, emptyQueues, resetController, isReady, isBusy}
 use Rattle.model.specs.Refusals.{accepts, check, orElse, settle}
 use Rattle.model.specs.Valid.{validWith}
 use Rattle.model.specs.declared.BusWord.{BusWord}
@@ -22,7 +22,7 @@ use Rattle.model.specs.declared.Answer.the-variants.{Invalid, Disabled, 
 
 -- Reset takes any state and checks only its D, for 1; refused, it hands that state back. It doesn't touch an image.
 unfoldable pub reset : Controller → ℕ → Outcome
-reset c d = settle c (freshController d) (check (not (pagesFit d)) Invalid)
+reset c d = settle c (resetController d) (check (not (pagesFit d)) Invalid)
 
 -- (01: shut)
 abbrev pub isDisabled : Phase → Bool

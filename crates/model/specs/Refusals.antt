@@ -50,6 +50,10 @@ phaseAnswer phase.Disabled = Disabled
 abbrev pub readyAnswer : Bool → Phase → Answer
 readyAnswer valid p = orElse (check (not valid) Invalid) (phaseAnswer p)
 
+-- A refusal that leaves the state as it was.
+abbrev pub refused : Controller → Answer → Outcome
+refused c a = record { controller = c; answer = a }
+
 -- What a call leaves: the next state if it accepts, else the state as it was.
 abbrev pub settle : Controller → Controller → Answer → Outcome
 settle c next a = record { controller = cond (accepts a) next c; answer = a }

@@ -1,7 +1,7 @@
 -- Who may touch which page: the look-up of rights, the seed pages, and the one check over a span of pages.
 -- (01, 'Who may touch which page')
 use Prim.Native.Nat.{ℕ, zero, suc, _+_, _-_, _*_, _/_, _%_, min}
-use mathlib.Core.Bool.{Bool, true, false, _&&_, _||_, not, cond}
+use mathlib.Core.Bool.{Bool, false, _&&_, _||_, not, cond}
 use mathlib.Core.List.{List, [], _∷_}
 use lib.Dec.{ltb, leb, eqb}
 use lib.ListN.{getD}
@@ -66,13 +66,13 @@ rightsOfPage s q =
 -- ---- an operation's span
 
 -- A page of the span has the right that the operation needs.
-abbrev pub pageGrants : Setup → Operation → ℕ → Bool
-pageGrants s o p = grants (rightsAt s (isInformation o) (o .info) (record { 0 = p })) (rightNeeded o)
+abbrev pub pageGrants : Setup → Operation → Page → Bool
+pageGrants s o p = grants (rightsAt s (isInformation o) (o .info) p) (rightNeeded o)
 
--- How many of the n numbers from `from` on pass a test before the first that fails.
-unfoldable pub leading : (ℕ → Bool) → ℕ → ℕ → ℕ
-leading test from zero = 0
-leading test from (suc n) = cond (test from) (suc (leading test (from + 1) n)) 0
+-- How many of the n pages from a page on pass a test before the first that fails.
+unfoldable pub leading : (Page → Bool) → Page → ℕ → ℕ
+leading test p zero = 0
+leading test p (suc n) = cond (test p) (suc (leading test (record { 0 = p .0 + 1 }) n)) 0
 
 -- The pages with one of the span's words, from its first word's page on.
 abbrev pub spanPages : Operation → ℕ
@@ -82,7 +82,7 @@ spanPages o = (spanStart o .0 % pageBytes + 4 * spanWords o + (pageBytes - 1)) /
 unfoldable pub allowedWords : Setup → Operation → ℕ
 allowedWords s o =
     min (spanWords o)
-    (leading (pageGrants s o) (pageOf (spanStart o) .0) (spanPages o) * pageWords - wordInPage (spanStart o))
+    (leading (pageGrants s o) (pageOf (spanStart o)) (spanPages o) * pageWords - wordInPage (spanStart o))
 
 -- Bank erase looks only at its bank's permission, even over seed pages (000). Every page of another span needs the right.
 unfoldable pub denied : Setup → Operation → Bool

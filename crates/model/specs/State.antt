@@ -114,7 +114,7 @@ withReads q r = record { reads = r; programs = q .programs }
 abbrev pub withPrograms : Queues → Queue → Queues
 withPrograms q p = record { reads = q .reads; programs = p }
 
--- ---- the state after reset: every setting and input off or 0, empty queues and records
+-- ---- the state after reset (01: fresh): every setting and input off or 0, empty queues and records
 
 abbrev pub inputsOff : Inputs
 inputsOff = record { provision = false; locked = false }
@@ -139,9 +139,8 @@ noErrors = record { malformed = false; range = false; window = false; denied = f
 abbrev pub emptyQueues : Queues
 emptyQueues = record { reads = emptyQueue; programs = emptyQueue }
 
--- (01: fresh)
-abbrev pub freshController : ℕ → Controller
-freshController d = record {
+abbrev pub resetController : ℕ → Controller
+resetController d = record {
   setup = record { pages = d; inputs = inputsOff; settings = settingsOff };
   phase = Uninitialised;
   errors = noErrors;

@@ -6,12 +6,12 @@ use Rattle.model.specs.Words.{allOnes, programmed, changedBits}
 use Rattle.model.specs.Kinds.{isRead, isProgram}
 use Rattle.model.specs.Places.{totalWords, placeOf}
 use Rattle.model.specs.Queue.{isEmpty, isFull, pushed, oldest, popped}
-use Rattle.model.specs.State.{Flash, Leaves, stored, withWord, withErrors, withQueues, withProgress, withReads, withPrograms, isBusy}
+use Rattle.model.specs.State.{Flash, Leaves, stored, withWord, withQueues, withProgress, withReads, withPrograms, isBusy}
 use Rattle.model.specs.Rights.{readableWords}
-use Rattle.model.specs.Refusals.{accepts, isDenied, check, orElse, readyAnswer, settle}
+use Rattle.model.specs.Refusals.{numberOf, accepts, isDenied, check, orElse, readyAnswer, refused, settle}
 use Rattle.model.specs.Checks.{operationAnswer}
 use Rattle.model.specs.Valid.{valid, validWith}
-use Rattle.model.specs.Errors.{recorded}
+use Rattle.model.specs.Errors.{withRecorded}
 use Rattle.model.specs.declared.BusWord.{BusWord}
 use Rattle.model.specs.declared.Operation.{Operation}
 use Rattle.model.specs.declared.Queues.{Queues}
@@ -48,15 +48,13 @@ progressAfter c o a = cond (starts o a) (Running (workOf (c .setup) o)) (c .prog
 -- What checks 5, 7, 8 and 9 leave.
 abbrev pub started : Controller → Operation → Answer → Outcome
 started c o a = record {
-  controller = withProgress (withErrors c (recorded a (o .address) (c .errors))) (progressAfter c o a);
+  controller = withProgress (withRecorded c (numberOf a) o) (progressAfter c o a);
   answer = a;
 }
 
 unfoldable pub start : Controller → Operation → Outcome
 start c o =
-    cond (accepts (startAnswer c))
-    (started c o (operationAnswer (c .setup) o))
-    (record { controller = c; answer = startAnswer c })
+    cond (accepts (startAnswer c)) (started c o (operationAnswer (c .setup) o)) (refused c (startAnswer c))
 
 -- ---- push: checks 1, 2, 3, 12 (no program, or n already pushed), 11
 

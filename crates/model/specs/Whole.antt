@@ -80,15 +80,11 @@ pub record WholeLeaves : Type 0 where
   pub flash : Flash
   pub buffer : List ℕ
 
-abbrev pub unmoved : Controller → Answer → Flash → List ℕ → WholeLeaves
-unmoved c a f b = record { result = record { controller = c; answer = a; bits = 0 }; flash = f; buffer = b }
+abbrev pub leaving : Controller → Answer → ℕ → Flash → List ℕ → WholeLeaves
+leaving c a bits f b = record { result = record { controller = c; answer = a; bits = bits }; flash = f; buffer = b }
 
 abbrev pub completed : Answer → Run → WholeLeaves
-completed a r = record {
-  result = record { controller = r .controller; answer = a; bits = r .bits };
-  flash = r .flash;
-  buffer = r .buffer;
-}
+completed a r = leaving (r .controller) a (r .bits) (r .flash) (r .buffer)
 
 -- An operation that starts is driven to its end. Its answer is that of its start.
 unfoldable pub drive : ℕ → Operation → Outcome → Flash → List ℕ → WholeLeaves
@@ -96,10 +92,10 @@ drive d o s f b =
     cond (starts o (s .answer))
     (completed (s .answer)
     (turns o (totalWords d o) (record { controller = s .controller; flash = f; buffer = b; bits = 0 })))
-    (unmoved (s .controller) (s .answer) f b)
+    (leaving (s .controller) (s .answer) 0 f b)
 
 unfoldable pub whole : Controller → Flash → Operation → List ℕ → WholeLeaves
 whole c f o b =
     cond (accepts (wholeAnswer c f))
-    (cond (shortBuffer o b) (unmoved c ShortBuffer f b) (drive (c .setup .pages) o (start c o) f b))
-    (unmoved c (wholeAnswer c f) f b)
+    (cond (shortBuffer o b) (leaving c ShortBuffer 0 f b) (drive (c .setup .pages) o (start c o) f b))
+    (leaving c (wholeAnswer c f) 0 f b)

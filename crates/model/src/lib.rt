@@ -1,6 +1,46 @@
 // The types of the model: what a caller hands in, what the controller holds, and what a call answers.
 // What each call does is defined in specs/. There are no functions here.
 
+// ---- numbers that code shares, as specs/ has them; `WIDE` ones are for sums that pass 32 bits
+
+// D, the data pages in each bank, is from the first to the second.
+pub const MIN_PAGES: u32 = 10;
+
+pub const MAX_PAGES: u32 = 256;
+
+pub const PAGE_WORDS: u32 = 256;
+
+pub const PAGE_BYTES: u32 = 1024;
+
+// The information pages of a bank, and three of bank 0 and type 0.
+pub const INFO_PAGES: u32 = 13;
+
+pub const CREATOR_PAGE: u32 = 1;
+
+pub const OWNER_PAGE: u32 = 2;
+
+pub const ISOLATED_PAGE: u32 = 3;
+
+// The largest n of a read or a program.
+pub const MAX_COUNT: u32 = 1024;
+
+pub const QUEUE_WORDS: u32 = 16;
+
+pub const ERASED: u32 = 0xFFFF_FFFF;
+
+pub const WIDE_PAGE_WORDS: usize = PAGE_WORDS as usize;
+
+pub const WIDE_PAGE_BYTES: usize = PAGE_BYTES as usize;
+
+pub const WIDE_INFO_PAGES: usize = INFO_PAGES as usize;
+
+pub const WIDE_QUEUE_WORDS: usize = QUEUE_WORDS as usize;
+
+// The information pages of both banks have a setting each.
+pub const INFO_SETTINGS: usize = 2 * WIDE_INFO_PAGES;
+
+// ---- places
+
 // A page as byte addresses count it: address / 1,024. The data pages are 0 to 2D - 1 over both banks.
 pub struct Page(pub u32);
 
@@ -12,6 +52,8 @@ pub struct BusWord(pub u32);
 
 // A byte address, as operations and host reads give it.
 pub struct ByteAddress(pub u32);
+
+// ---- the state
 
 // Reset leaves Uninitialised (01: fresh), initialise Ready, RMA Disabled (01: shut).
 pub enum Phase {
@@ -44,7 +86,7 @@ pub struct PageSetting {
 pub struct Settings {
     pub regions: [Region; 8],
     pub default_rights: u8,
-    pub info: [PageSetting; 26],
+    pub info: [PageSetting; INFO_SETTINGS],
     pub erase: [bool; 2],
 }
 
@@ -59,7 +101,7 @@ pub struct Errors {
 
 // A queue of bus words. It holds the first `len` of `words`, oldest first; the places after them are no part of it.
 pub struct Queue {
-    pub words: [u32; 16],
+    pub words: [u32; WIDE_QUEUE_WORDS],
     pub len: u32,
 }
 
@@ -117,6 +159,8 @@ pub struct Controller {
     pub queues: Queues,
     pub progress: Progress,
 }
+
+// ---- what calls hand back
 
 // A call's answer: accepted, or the refusal. specs/Refusals.antt gives each its number in 01.
 pub enum Answer {

@@ -63,10 +63,10 @@ module _ {s : List ℕ} {o : Operation} {a : Answer} (b : Begins s o a) where
   unfolding standsFor
   begin-stays t = rw t (sym (progress-kept itself (parts s (b .encodes) .progress)))
 
-  pub begin-records : putErrors (putProgress s (progressAfter (standsFor s) o a)) (recorded a (o .address) (errorsAt s))
+  pub begin-records : putErrors (putProgress s (progressAfter (standsFor s) o a)) (recorded (numberOf a) (o .address) (errorsAt s))
       ≡ put s (started (standsFor s) o a .controller)
   unfolding standsFor
-  begin-records = sym (put-starting s (b .encodes) (recorded a (o .address) (errorsAt s)) (progressAfter (standsFor s) o a))
+  begin-records = sym (put-starting s (b .encodes) (recorded (numberOf a) (o .address) (errorsAt s)) (progressAfter (standsFor s) o a))
 
 -- ---- the call
 

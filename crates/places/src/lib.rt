@@ -2,13 +2,15 @@
 ghost use mathlib.Core.Path.{_≡_};
 ghost use mathlib.Core.Bool.{false};
 ghost use Prim.Native.Nat.{_<_, _≤_};
-ghost use Rattle.model.specs.Geometry.{imageWords};
-ghost use Rattle.model.specs.Kinds.{isRead, isProgram, isPageErase, isBankErase, isInformation, usesCount, usesType, rightNeeded, usesCount};
-ghost use Rattle.model.specs.Places.{spanStart, spanWords, spanAddress, bankWords, totalWords, placeOf};
+ghost use Rattle.model.specs.Kinds.{isRead, isProgram, isPageErase, isBankErase, isInformation, usesCount, rightNeeded, usesCount};
+ghost use Rattle.model.specs.Places.{spanStart, spanWords, spanAddress, totalWords, placeOf};
 ghost use Rattle.model.specs.Checks.{outOfRange};
 use model::BusWord;
 use model::ByteAddress;
 use model::Operation;
+use model::PAGE_WORDS;
+use model::WIDE_INFO_PAGES;
+use model::WIDE_PAGE_WORDS;
 
 pub fn is_read(o: Operation) -> bool
     ensures { λ r. ⌜ r ≡ isRead o ⌝ }
@@ -72,7 +74,11 @@ pub fn span_start(o: Operation) -> ByteAddress
 pub fn span_words(o: Operation) -> u32
     ensures { λ r. ⌜ r ≡ spanWords o ⌝ }
 {
-    if is_page_erase(o) { 256 } else { o.count }
+    if is_page_erase(o) {
+        PAGE_WORDS
+    } else {
+        o.count
+    }
 }
 
 // The address of word `k`, wide enough that no sum wraps.
@@ -88,9 +94,9 @@ pub fn total_words(d: u32, o: Operation) -> usize
 {
     if is_bank_erase(o) {
         if is_information(o) {
-            return (d as usize + 13) * 256;
+            return (d as usize + WIDE_INFO_PAGES) * WIDE_PAGE_WORDS;
         }
-        return d as usize * 256;
+        return d as usize * WIDE_PAGE_WORDS;
     }
     span_words(o) as usize
 }

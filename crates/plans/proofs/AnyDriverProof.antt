@@ -12,10 +12,10 @@ use Rattle.model.specs.Places.{totalWords}
 use Rattle.model.specs.Queue.{emptyQueue}
 use Rattle.model.specs.State.{Flash, withReads, withPrograms}
 use Rattle.model.specs.Rights.{readableWords}
-use Rattle.model.specs.Refusals.{accepts}
+use Rattle.model.specs.Refusals.{accepts, numberOf}
 use Rattle.model.specs.Checks.{operationAnswer}
 use Rattle.model.specs.Steps.{workOf, starts, start}
-use Rattle.model.specs.Whole.{wholeAnswer, shortBuffer, whole}
+use Rattle.model.specs.Whole.{wholeAnswer, shortBuffer, whole, leaving}
 use Rattle.model.specs.declared.Operation.{Operation}
 use Rattle.model.specs.declared.Work.{Work}
 use Rattle.model.specs.declared.Work.the-variants.{Read, Program, Erase}
@@ -25,7 +25,8 @@ use Rattle.model.proofs.Bool.{which}
 use Rattle.model.proofs.Places.{moving-words}
 use Rattle.model.proofs.WorkParts.{operationOf, atWord}
 use Rattle.model.proofs.Free.{whole-free, whole-fits, free-start}
-use Rattle.plans.specs.Plan.{programming, erasing, readsDrained, programsDrained, leaving, withRecorded}
+use Rattle.model.specs.Errors.{withRecorded}
+use Rattle.plans.specs.Plan.{programming, erasing, readsDrained, programsDrained}
 use Rattle.plans.specs.Driver.{Drive, Driven, stepping, pushing, popping, drives, begun, Ended, SameAs, AnyDriver}
 use Rattle.plans.proofs.Holding.{holds-none}
 use Rattle.plans.proofs.Running.{stateAt, recordedBy, at-end, idle-all}
@@ -55,7 +56,7 @@ module _ (c : Controller) (f : Flash) (o : Operation) (b : List ℕ) (free : acc
   -- of a read,
   read-ended : (r : Driven) → ReadDriven c (recordedBy c o) o f (readableWords (c .setup) o) r → Ended b r
       → r
-      ≡ seen (readsDrained (withRecorded c (operationAnswer (c .setup) o) o)) f []
+      ≡ seen (readsDrained (withRecorded c (numberOf (operationAnswer (c .setup) o)) o)) f []
       (readFirst f (c .setup .pages) o (readableWords (c .setup) o) (totalWords (c .setup .pages) o)) 0
   unfolding readSeen stateAt
   read-ended r h ended =
@@ -70,7 +71,7 @@ module _ (c : Controller) (f : Flash) (o : Operation) (b : List ℕ) (free : acc
   -- of a program,
   program-ended : (r : Driven) → ProgramDriven c (recordedBy c o) o f r → Ended b r → isRead o ≡ false → isProgram o ≡ true
       → r
-      ≡ seen (programsDrained (withRecorded c (operationAnswer (c .setup) o) o))
+      ≡ seen (programsDrained (withRecorded c (numberOf (operationAnswer (c .setup) o)) o))
       (storedFirst (c .setup .pages) o (programming b) (totalWords (c .setup .pages) o) f) (r .given) []
       (changedFirst (c .setup) o (programming b) (totalWords (c .setup .pages) o) f)
   unfolding programSeen stateAt
@@ -95,7 +96,7 @@ module _ (c : Controller) (f : Flash) (o : Operation) (b : List ℕ) (free : acc
   -- and of an erase.
   erase-ended : (r : Driven) → EraseDriven c (recordedBy c o) o f r → Ended b r
       → r
-      ≡ seen (withRecorded c (operationAnswer (c .setup) o) o) (storedFirst (c .setup .pages) o erasing (totalWords (c .setup .pages) o) f) [] []
+      ≡ seen (withRecorded c (numberOf (operationAnswer (c .setup) o)) o) (storedFirst (c .setup .pages) o erasing (totalWords (c .setup .pages) o) f) [] []
       (changedFirst (c .setup) o erasing (totalWords (c .setup .pages) o) f)
   unfolding eraseSeen
   erase-ended r h ended =

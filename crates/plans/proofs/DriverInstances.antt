@@ -8,7 +8,7 @@ use Rattle.model.specs.Geometry.{imagePage, wordAt}
 use Rattle.model.specs.Words.{allOnes, programmed, changedBits, differIn}
 use Rattle.model.specs.Places.{totalWords, placeOf}
 use Rattle.model.specs.Queue.{held, queueOf, pushed, oldest, popped}
-use Rattle.model.specs.State.{Flash, flash, flashFits, freshController}
+use Rattle.model.specs.State.{Flash, flash, flashFits, resetController}
 use Rattle.model.specs.Rights.{dataRights, rightsAt, leading, allowedWords, denied, readableWords}
 use Rattle.model.specs.Refusals.{accepts}
 use Rattle.model.specs.Checks.{malformed, outOfRange, crossesWindow, operationAnswer}
@@ -30,7 +30,7 @@ image = flash (0 ∷ 7 ∷ 9 ∷ replicate 11773 allOnes)
 
 -- After reset, all rights on page 0, initialised.
 abbrev ready : Controller
-ready = initialise (setRegion (freshController 10) 0 (region true 0 1 7) .controller) image .controller
+ready = initialise (setRegion (resetController 10) 0 (region true 0 1 7) .controller) image .controller
 
 -- A program of words 2 and 3, and a read of words 0 to 2; each buffer has one word more than is used.
 abbrev program : Operation

@@ -11,9 +11,8 @@ use borrow.Author.Tests.{eqb-true, eqb-false}
 use Rattle.model.specs.Kinds.{isProgram}
 use Rattle.model.specs.Queue.{isEmpty}
 use Rattle.model.specs.State.{Flash, flashFits}
-use Rattle.model.specs.Refusals.{accepts}
+use Rattle.model.specs.Refusals.{accepts, refused}
 use Rattle.model.specs.Steps.{stalls, push}
-use Rattle.model.specs.Order.{refusedOutcome}
 use Rattle.model.specs.declared.Errors.{Errors}
 use Rattle.model.specs.declared.Queues.{Queues}
 use Rattle.model.specs.declared.Work.{Work}
@@ -45,7 +44,7 @@ module _ {c : Controller} {es : Errors} {w : Work} {k : ℕ} {q : Queues} (b : B
       (which (eqb k (wordsOf c w)))
 
   -- A refused push changes nothing,
-  pub push-same : (v : ℕ) (a : Answer) → accepts a ≡ false → push (stateAt c es w k q) v ≡ refusedOutcome (stateAt c es w k q) a
+  pub push-same : (v : ℕ) (a : Answer) → accepts a ≡ false → push (stateAt c es w k q) v ≡ refused (stateAt c es w k q) a
       → pushing v r ≡ r
   push-same v a n e = rw (is, e, n)
 

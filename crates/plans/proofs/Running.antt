@@ -10,12 +10,11 @@ use Rattle.model.specs.Kinds.{isProgram}
 use Rattle.model.specs.Places.{totalWords}
 use Rattle.model.specs.Queue.{isEmpty, pushed, oldest, popped}
 use Rattle.model.specs.State.{Flash, flashFits, isBusy, withErrors, withQueues, withReads, withPrograms}
-use Rattle.model.specs.Refusals.{accepts, readyAnswer}
+use Rattle.model.specs.Refusals.{numberOf, accepts, readyAnswer, refused}
 use Rattle.model.specs.Checks.{operationAnswer}
 use Rattle.model.specs.Errors.{recorded}
 use Rattle.model.specs.Valid.{errorsFit, workFits, runningFits, valid, validWith}
 use Rattle.model.specs.Steps.{starts, workOf, start, stalls, advance, still, pushAnswer, push, popAnswer, pop, step}
-use Rattle.model.specs.Order.{refusedOutcome}
 use Rattle.model.specs.declared.Errors.{Errors}
 use Rattle.model.specs.declared.Queue.{Queue}
 use Rattle.model.specs.declared.Queues.{Queues}
@@ -52,7 +51,7 @@ stateAt c es w k q = changed c (c .phase) es q (progressAt w (wordsOf c w) k)
 
 -- The error record that a start leaves: its answer is recorded.
 abbrev pub recordedBy : Controller → Operation → Errors
-recordedBy c o = recorded (operationAnswer (c .setup) o) (o .address) (c .errors)
+recordedBy c o = recorded (numberOf (operationAnswer (c .setup) o)) (o .address) (c .errors)
 
 -- Of work that a free controller starts,
 pub record Begun (c : Controller) (es : Errors) (w : Work) : Type 0 where
@@ -189,7 +188,7 @@ unexpected c x (Erase o i) n k e p = ⊎-elim (λ t. rw t) (λ t. rw t) (which (
 module _ {c : Controller} {es : Errors} {w : Work} {k : ℕ} {q : Queues} (b : Begun c es w) (h : Queued c w k q) (v : ℕ) where
   -- It is refused as checks 12 and 11 say,
   pub pushes-refused : (a : Answer) → accepts a ≡ false → pushAnswer (stateAt c es w k q) (progressAt w (wordsOf c w) k) ≡ a
-      → push (stateAt c es w k q) v ≡ refusedOutcome (stateAt c es w k q) a
+      → push (stateAt c es w k q) v ≡ refused (stateAt c es w k q) a
   unfolding stateAt
   pushes-refused a n e = sym (push-refused (stateAt c es w k q) v a (ready-at b h) e n)
 
@@ -200,6 +199,6 @@ module _ {c : Controller} {es : Errors} {w : Work} {k : ℕ} {q : Queues} (b : B
   pushes e = sym (push-accepted (stateAt c es w k q) v (ready-at b h) e)
 
   -- and it is always refused if there is no program.
-  pub pushes-unexpected : isProgram (operationOf w) ≡ false → push (stateAt c es w k q) v ≡ refusedOutcome (stateAt c es w k q) Unexpected
+  pub pushes-unexpected : isProgram (operationOf w) ≡ false → push (stateAt c es w k q) v ≡ refused (stateAt c es w k q) Unexpected
   pushes-unexpected e =
       pushes-refused Unexpected refl (unexpected c (stateAt c es w k q) w (wordsOf c w) k e (work-parts _ _ w (b .work)))

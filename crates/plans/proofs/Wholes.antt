@@ -10,11 +10,11 @@ use Rattle.model.specs.Kinds.{isRead, isProgram}
 use Rattle.model.specs.Places.{totalWords}
 use Rattle.model.specs.State.{Flash}
 use Rattle.model.specs.Rights.{readableWords}
-use Rattle.model.specs.Refusals.{accepts}
+use Rattle.model.specs.Refusals.{accepts, numberOf}
 use Rattle.model.specs.Checks.{operationAnswer}
 use Rattle.model.specs.Steps.{starts, workOf, start}
 use Rattle.model.specs.Valid.{errorsFit}
-use Rattle.model.specs.Whole.{wholeAnswer, shortBuffer, completed, turns, drive, whole}
+use Rattle.model.specs.Whole.{wholeAnswer, shortBuffer, leaving, completed, turns, drive, whole}
 use Rattle.model.specs.declared.Operation.{Operation}
 use Rattle.model.specs.declared.Work.{Work}
 use Rattle.model.specs.declared.Work.the-variants.{Read, Program, Erase}
@@ -25,7 +25,8 @@ use Rattle.model.proofs.Valid.{valid-parts}
 use Rattle.model.proofs.WorkParts.{operationOf, atWord}
 use Rattle.model.proofs.Starting.{recorded-fits, starts-well, first-word, read-starts, program-starts, erase-starts}
 use Rattle.model.proofs.Free.{whole-free, whole-fits, free-start}
-use Rattle.plans.specs.Plan.{programming, erasing, readsDrained, programsDrained, leaving, withRecorded}
+use Rattle.model.specs.Errors.{withRecorded}
+use Rattle.plans.specs.Plan.{programming, erasing, readsDrained, programsDrained}
 use Rattle.plans.proofs.Holding.{drained-some}
 use Rattle.plans.proofs.Running.{wordsOf, stateAt, recordedBy, Begun, at-start, at-end}
 use Rattle.plans.proofs.Firsts.{readFirst, storedFirst, changedFirst}
@@ -55,7 +56,7 @@ module _ (c : Controller) (f : Flash) (o : Operation) (b : List ℕ) (free : acc
     -- What it records fits,
     errors-fit : errorsFit (recordedBy c o) ≡ true
     errors-fit =
-        recorded-fits (operationAnswer (c .setup) o) (o .address) (c .errors) (valid-parts c (whole-free c f free .fits) .errors)
+        recorded-fits (numberOf (operationAnswer (c .setup) o)) (o .address) (c .errors) (valid-parts c (whole-free c f free .fits) .errors)
 
     -- and so does its work: a read's,
     pub read-begun : isRead o ≡ true → Begun c (recordedBy c o) (Read o 0 (readableWords (c .setup) o))
@@ -83,7 +84,7 @@ module _ (c : Controller) (f : Flash) (o : Operation) (b : List ℕ) (free : acc
     -- What a read leaves,
     pub whole-read : isRead o ≡ true
         → whole c f o b
-        ≡ leaving (readsDrained (withRecorded c (operationAnswer (c .setup) o) o)) (operationAnswer (c .setup) o) 0 f
+        ≡ leaving (readsDrained (withRecorded c (numberOf (operationAnswer (c .setup) o)) o)) (operationAnswer (c .setup) o) 0 f
         (readFirst f (c .setup .pages) o (readableWords (c .setup) o) (totalWords (c .setup .pages) o) ++ drop (totalWords (c .setup .pages) o) b)
     unfolding reading
     whole-read r =
@@ -96,7 +97,7 @@ module _ (c : Controller) (f : Flash) (o : Operation) (b : List ℕ) (free : acc
     -- a program,
     pub whole-program : isRead o ≡ false → isProgram o ≡ true
         → whole c f o b
-        ≡ leaving (programsDrained (withRecorded c (operationAnswer (c .setup) o) o)) (operationAnswer (c .setup) o)
+        ≡ leaving (programsDrained (withRecorded c (numberOf (operationAnswer (c .setup) o)) o)) (operationAnswer (c .setup) o)
         (changedFirst (c .setup) o (programming b) (totalWords (c .setup .pages) o) f) (storedFirst (c .setup .pages) o (programming b) (totalWords (c .setup .pages) o) f) b
     unfolding programmingAt
     whole-program r p =
@@ -108,7 +109,7 @@ module _ (c : Controller) (f : Flash) (o : Operation) (b : List ℕ) (free : acc
     -- and an erase.
     pub whole-erase : isRead o ≡ false → isProgram o ≡ false
         → whole c f o b
-        ≡ leaving (withRecorded c (operationAnswer (c .setup) o) o) (operationAnswer (c .setup) o)
+        ≡ leaving (withRecorded c (numberOf (operationAnswer (c .setup) o)) o) (operationAnswer (c .setup) o)
         (changedFirst (c .setup) o erasing (totalWords (c .setup .pages) o) f) (storedFirst (c .setup .pages) o erasing (totalWords (c .setup .pages) o) f) b
     unfolding erasingAt
     whole-erase r p =
@@ -119,6 +120,6 @@ module _ (c : Controller) (f : Flash) (o : Operation) (b : List ℕ) (free : acc
 
   -- What does not start is recorded, and moves no word.
   pub whole-recorded : starts o (operationAnswer (c .setup) o) ≡ false
-      → whole c f o b ≡ leaving (withRecorded c (operationAnswer (c .setup) o) o) (operationAnswer (c .setup) o) 0 f b
+      → whole c f o b ≡ leaving (withRecorded c (numberOf (operationAnswer (c .setup) o)) o) (operationAnswer (c .setup) o) 0 f b
   unfolding whole drive
   whole-recorded s = rw (free, room, free-start c o (whole-free c f free), s)

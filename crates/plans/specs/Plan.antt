@@ -9,12 +9,12 @@ use Rattle.model.specs.Words.{allOnes, programmed}
 use Rattle.model.specs.Kinds.{isRead, isProgram}
 use Rattle.model.specs.Places.{totalWords, placeOf}
 use Rattle.model.specs.Queue.{emptyQueue}
-use Rattle.model.specs.State.{Flash, stored, withWord, withErrors, withQueues, withReads, withPrograms}
-use Rattle.model.specs.Refusals.{accepts, isDenied}
+use Rattle.model.specs.State.{Flash, stored, withWord, withQueues, withReads, withPrograms}
+use Rattle.model.specs.Refusals.{numberOf, accepts, isDenied}
 use Rattle.model.specs.Checks.{operationAnswer}
-use Rattle.model.specs.Errors.{recorded}
+use Rattle.model.specs.Errors.{withRecorded}
 use Rattle.model.specs.Steps.{delivered, countedBits}
-use Rattle.model.specs.Whole.{WholeLeaves, wholeAnswer, shortBuffer, whole}
+use Rattle.model.specs.Whole.{WholeLeaves, leaving, wholeAnswer, shortBuffer, whole}
 use Rattle.model.specs.declared.BusWord.{BusWord}
 use Rattle.model.specs.declared.Operation.{Operation}
 use Rattle.model.specs.declared.Setup.{Setup}
@@ -90,16 +90,11 @@ readsDrained c = withQueues c (withReads (c .queues) emptyQueue)
 abbrev pub programsDrained : Controller → Controller
 programsDrained c = withQueues c (withPrograms (c .queues) emptyQueue)
 
-abbrev pub leaving : Controller → Answer → ℕ → Flash → List ℕ → WholeLeaves
-leaving c a bits f b = record { result = record { controller = c; answer = a; bits = bits }; flash = f; buffer = b }
-
-abbrev pub withRecorded : Controller → Answer → Operation → Controller
-withRecorded c a o = withErrors c (recorded a (o .address) (c .errors))
-
 unfoldable pub performed : Controller → Flash → Operation → List ℕ → Plan → WholeLeaves
 performed c f o b (Refused a) = leaving c a 0 f b
-performed c f o b (Recorded a) = leaving (withRecorded c a o) a 0 f b
-performed c f o b (Blank n) = leaving (readsDrained (withRecorded c Denied o)) Denied 0 f (replicate n allOnes ++ drop n b)
+performed c f o b (Recorded a) = leaving (withRecorded c (numberOf a) o) a 0 f b
+performed c f o b (Blank n) =
+    leaving (readsDrained (withRecorded c (numberOf Denied) o)) Denied 0 f (replicate n allOnes ++ drop n b)
 performed c f o b (Reads ps) = leaving (readsDrained c) Accepted 0 f (deliveredAt f ps ++ drop (length ps) b)
 performed c f o b (Programs ps) =
     leaving (programsDrained c) Accepted (changed-all (c .setup) (programming b) 0 ps f) (stored-all (programming b) 0 ps f) b

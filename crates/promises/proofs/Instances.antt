@@ -7,7 +7,7 @@ use Rattle.model.specs.Geometry.{imagePage, wordAt}
 use Rattle.model.specs.Words.{allOnes, programmed}
 use Rattle.model.specs.Places.{totalWords, placeOf}
 use Rattle.model.specs.Queue.{held, queueOf, pushed, oldest, popped}
-use Rattle.model.specs.State.{flash, flashFits, freshController}
+use Rattle.model.specs.State.{flash, flashFits, resetController}
 use Rattle.model.specs.Rights.{dataRights, rightsAt, rightsOfPage, leading, allowedWords, denied, readableWords}
 use Rattle.model.specs.Checks.{malformed, outOfRange, crossesWindow, operationAnswer}
 use Rattle.model.specs.Valid.{settingsFit, workFits, runningFits, valid, validWith}
@@ -26,8 +26,8 @@ use Rattle.promises.specs.Counted.{wordsLeft}
 use Rattle.promises.specs.Unknown.{stateOf}
 
 -- After reset; the image's first word is 0, the others are ones.
-abbrev fresh : State
-fresh = stateOf (freshController 10) (flash (0 ∷ replicate 11775 allOnes))
+abbrev afterReset : State
+afterReset = stateOf (resetController 10) (flash (0 ∷ replicate 11775 allOnes))
 
 -- All rights on page 0 alone, and initialised;
 abbrev opening : List Call
@@ -38,7 +38,7 @@ abbrev calls : Operation → List Call
 calls o = opening ++ (Start o ∷ [])
 
 abbrev reached : Operation → State
-reached o = run fresh (calls o)
+reached o = run afterReset (calls o)
 
 -- An erase of page 0, a program of its word 1, and a read of page 1.
 abbrev erase : Operation
@@ -53,29 +53,29 @@ read = op 0 0 0 1024 1
 -- What each promise asks for, met.
 pub record Met : Type 0 where
   -- every promise: the state that the calls begin with is valid
-  pub shaped : Shaped (fresh .controller)
-  pub ours : valid (fresh .controller) ≡ true
+  pub shaped : Shaped (afterReset .controller)
+  pub begins-valid : valid (afterReset .controller) ≡ true
   -- `Confined`: page 1 is protected along calls that erase a word of page 0
-  pub guarded : protectedAlong (record { 0 = 1 }) fresh (calls erase ++ (Step ∷ [])) ≡ true
+  pub guarded : protectedAlong (record { 0 = 1 }) afterReset (calls erase ++ (Step ∷ [])) ≡ true
   -- `NoneRises`, `NoneFalls`: along the same calls page 1 is neither erased nor programmed, and its first bit is 1
-  pub unerased : unerasedAlong (record { 0 = 1 }) fresh (calls erase ++ (Step ∷ [])) ≡ true
-  pub unprogrammed : unprogrammedAlong (record { 0 = 1 }) fresh (calls erase ++ (Step ∷ [])) ≡ true
-  pub bit-of-page-1 : bitOf (fresh .flash) 256 0 ≡ 1
+  pub unerased : unerasedAlong (record { 0 = 1 }) afterReset (calls erase ++ (Step ∷ [])) ≡ true
+  pub unprogrammed : unprogrammedAlong (record { 0 = 1 }) afterReset (calls erase ++ (Step ∷ [])) ≡ true
+  pub bit-of-page-1 : bitOf (afterReset .flash) 256 0 ≡ 1
   -- `ExactlyItsWords`: the erase has 256 words left, and the image fits
   pub left : wordsLeft (reached erase .controller) ≡ 256
   pub fits : validWith (reached erase .controller) (reached erase .flash) ≡ true
   -- `RisesByErase`: its first step makes a 0 bit 1
   pub low : bitOf (reached erase .flash) 0 0 ≡ 0
-  pub high : bitOf (run fresh (calls erase ++ (Step ∷ [])) .flash) 0 0 ≡ 1
+  pub high : bitOf (run afterReset (calls erase ++ (Step ∷ [])) .flash) 0 0 ≡ 1
   -- `RefusedMovesNothing`, `RefusedUnknown`: a second start is refused
   pub refused : perform (reached erase) (Start read) .reply .answer ≡ 4
   -- a pushed word is the one that a step programs
   pub stores : getD (run (reached program) (Push 5 ∷ Step ∷ []) .flash .words) 1 0 ≡ 5
   -- whole operations: the buffer's word is programmed, the 0 bit becomes 1, the denied read puts ones into its one place
-  pub whole-stores : getD (run fresh (opening ++ (Whole program (5 ∷ []) ∷ [])) .flash .words) 1 0 ≡ 5
-  pub whole-high : bitOf (run fresh (opening ++ (Whole erase [] ∷ [])) .flash) 0 0 ≡ 1
-  pub whole-denied : perform (run fresh opening) (Whole read (5 ∷ 6 ∷ [])) .reply .answer ≡ 9
-  pub whole-blank : perform (run fresh opening) (Whole read (5 ∷ 6 ∷ [])) .reply .buffer ≡ allOnes ∷ 6 ∷ []
+  pub whole-stores : getD (run afterReset (opening ++ (Whole program (5 ∷ []) ∷ [])) .flash .words) 1 0 ≡ 5
+  pub whole-high : bitOf (run afterReset (opening ++ (Whole erase [] ∷ [])) .flash) 0 0 ≡ 1
+  pub whole-denied : perform (run afterReset opening) (Whole read (5 ∷ 6 ∷ [])) .reply .answer ≡ 9
+  pub whole-blank : perform (run afterReset opening) (Whole read (5 ∷ 6 ∷ [])) .reply .buffer ≡ allOnes ∷ 6 ∷ []
   -- `BlankUnknown`: the read of page 1 is in progress, blank
   pub blank : reached read .controller .progress ≡ Running (Read read 0 0)
 
@@ -83,7 +83,7 @@ pub met : Met
 unfolding imagePage wordAt programmed totalWords placeOf held queueOf pushed oldest popped leading dataRights rightsAt allowedWords denied readableWords malformed outOfRange crossesWindow operationAnswer settingsFit workFits runningFits valid flashFits validWith recorded configured setRegion initialiseAnswer initialise startAnswer start pushAnswer push stalls advance stepProgress step popAnswer pop turn turns wholeAnswer drive whole perform rightsOfPage protected erasable programmable
 met = record {
   shaped = record { regions = refl; info = refl; erase = refl; reads = refl; programs = refl };
-  ours = refl;
+  begins-valid = refl;
   guarded = refl;
   unerased = refl;
   unprogrammed = refl;

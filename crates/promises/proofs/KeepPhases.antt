@@ -7,7 +7,7 @@ use native.Mathlib.Omega.{arith}
 use borrow.Author.Tests.{not-false}
 use Rattle.model.specs.Geometry.{pagesFit}
 use Rattle.model.specs.Queue.{queueOf, emptyQueue}
-use Rattle.model.specs.State.{Flash, noErrors, freshController, withErrors, withPhase}
+use Rattle.model.specs.State.{Flash, noErrors, resetController, withErrors, withPhase}
 use Rattle.model.specs.Refusals.{check}
 use Rattle.model.specs.Errors.{clear}
 use Rattle.model.specs.Lifecycle.{reset, isDisabled, initialiseAnswer, initialise, rmaAnswer, rmaController, rma}
@@ -24,9 +24,9 @@ unfolding queueOf
 empty-queue = record { places = refl; holds = omega arith }
 
 -- A controller after reset is valid, for each D that fits.
-pub fresh-valid : (d : ℕ) → pagesFit d ≡ true → Valid (freshController d)
+pub reset-valid : (d : ℕ) → pagesFit d ≡ true → Valid (resetController d)
 unfolding queueOf runningFits
-fresh-valid d h = record {
+reset-valid d h = record {
   pages = h;
   settings = record {
     region-places = refl;
@@ -48,8 +48,8 @@ module _ (c : Controller) (v : Valid c) where
   -- Reset keeps a valid state valid,
   pub reset-keeps : (d : ℕ) → Valid (reset c d .controller)
   unfolding reset
-  reset-keeps d = settle-keeps c (freshController d) (check (not (pagesFit d)) Invalid) v λ h.
-      fresh-valid d (not-false _ (check-passed (not (pagesFit d)) Invalid refl h))
+  reset-keeps d = settle-keeps c (resetController d) (check (not (pagesFit d)) Invalid) v λ h.
+      reset-valid d (not-false _ (check-passed (not (pagesFit d)) Invalid refl h))
 
   -- initialise too,
   pub initialise-keeps : (f : Flash) → Valid (initialise c f .controller)

@@ -10,7 +10,6 @@ use Rattle.model.specs.Refusals.{accepts, check, orElse, readyAnswer}
 use Rattle.model.specs.Steps.{pushAnswer, push, popAnswer, pop}
 use Rattle.model.specs.Valid.{valid, runningFits}
 use Rattle.model.specs.declared.Queue.{Queue}
-use Rattle.model.specs.declared.Queues.{Queues}
 use Rattle.model.specs.declared.Work.the-variants.{Read, Program, Erase}
 use Rattle.model.specs.declared.Progress.{Progress}
 use Rattle.model.specs.declared.Progress.the-variants.{Idle, Running}

@@ -2,7 +2,7 @@
 use mathlib.Core.Path.{_≡_, refl}
 use mathlib.Core.Bool.{true, false}
 use Rattle.model.specs.State.{isBusy}
-use Rattle.model.specs.Refusals.{accepts, readyAnswer}
+use Rattle.model.specs.Refusals.{accepts, readyAnswer, numberOf}
 use Rattle.model.specs.Checks.{operationAnswer}
 use Rattle.model.specs.Errors.{recorded}
 use Rattle.model.specs.Steps.{startAnswer, starts, progressAfter, started, start}
@@ -34,8 +34,8 @@ start-keeps c o v = by-test (accepts (startAnswer c)) (λ a. rw a (begun a)) (λ
     begun : accepts (startAnswer c) ≡ true → Valid (started c o (operationAnswer (c .setup) o) .controller)
     begun a =
         let (r, b) = both-accept (readyAnswer (valid c) (c .phase)) _ a in
-        let e = recorded (operationAnswer (c .setup) o) (o .address) (c .errors) in
+        let e = recorded (numberOf (operationAnswer (c .setup) o)) (o .address) (c .errors) in
         let p : Progress = progressAfter c o (operationAnswer (c .setup) o) in
         ready-keeps c (c .phase) e (c .queues) p v (ready-passed (valid c) (c .phase) r)
-        (recorded-fits (operationAnswer (c .setup) o) (o .address) (c .errors) (v .errors)) (v .reads) (v .programs)
+        (recorded-fits (numberOf (operationAnswer (c .setup) o)) (o .address) (c .errors) (v .errors)) (v .reads) (v .programs)
         (progress-after c o v (check-passed (isBusy (c .progress)) Busy refl b))

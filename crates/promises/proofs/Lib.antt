@@ -11,6 +11,7 @@ pub mod KeepWholes
 pub mod Validity
 -- the others
 pub mod FlashLaws
+pub mod Unrecorded
 pub mod RefusedWholes
 pub mod RefusedProof
 pub mod UnknownProof

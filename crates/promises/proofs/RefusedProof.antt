@@ -1,12 +1,12 @@
 -- A refused call moves nothing. Assumes nothing.
-use mathlib.Core.Path.{_≡_, refl}
+use mathlib.Core.Path.{_≡_, refl, sym}
 use mathlib.Core.Bool.{false, _&&_, cond}
 use Rattle.model.specs.Kinds.{isRead}
 use Rattle.model.specs.State.{isBusy}
 use Rattle.model.specs.Refusals.{numberOf, accepts, isDenied}
 use Rattle.model.specs.Checks.{operationAnswer}
 use Rattle.model.specs.Valid.{valid}
-use Rattle.model.specs.Errors.{recorded, clear}
+use Rattle.model.specs.Errors.{clear}
 use Rattle.model.specs.Settings.{setInputs, configured, setRegion, setDefault, setInfo, setErase}
 use Rattle.model.specs.Lifecycle.{reset, initialise, rma}
 use Rattle.model.specs.Steps.{startAnswer, progressAfter, started, start, push, pop}
@@ -16,10 +16,11 @@ use Rattle.model.specs.declared.Work.the-variants.{Read}
 use Rattle.model.specs.declared.Progress.the-variants.{Running}
 use Rattle.model.specs.declared.Controller.{Controller}
 use Rattle.model.proofs.Bool.{by-test}
-use Rattle.model.proofs.Answers.{accepts-not, unrecorded, recorded-if-refused}
+use Rattle.model.proofs.Answers.{accepts-not, unrecorded}
 use Rattle.model.proofs.StepLaws.{blank-work, start-goes-on, start-stops, step-refused}
 use Rattle.promises.specs.Calls.{Reset, SetInputs, SetRegion, SetDefault, SetInfo, SetErase, Initialise, Start, Step, Push, Pop, Whole, HostRead, ViewPage, Clear, Rma, perform}
 use Rattle.promises.specs.Refused.{leftBy, RefusedMovesNothing}
+use Rattle.promises.proofs.Unrecorded.{start-unrecorded}
 use Rattle.promises.proofs.RefusedWholes.{whole-left}
 
 -- A start refused with 5, 7, 8 or 9 starts nothing but a denied read, blank;
@@ -32,13 +33,12 @@ progress-left c o n =
 -- it is recorded,
 started-left : (c : Controller) (o : Operation) → accepts (operationAnswer (c .setup) o) ≡ false
     → started c o (operationAnswer (c .setup) o) .controller ≡ leftBy c (Start o) (numberOf (operationAnswer (c .setup) o))
-unfolding recorded
-started-left c o n = rw (recorded-if-refused (c .setup) o n, progress-left c o n)
+started-left c o n = rw (progress-left c o n)
 
 -- and one refused with 1 to 4 leaves the controller as it was.
 stopped-left : (c : Controller) (o : Operation) → c ≡ leftBy c (Start o) (numberOf (startAnswer c))
 unfolding startAnswer
-stopped-left c o = rw (unrecorded (valid c) (c .phase) (isBusy (c .progress)))
+stopped-left c o = sym (start-unrecorded c o _ (unrecorded (valid c) (c .phase) (isBusy (c .progress))))
 
 -- So a refused start leaves what the table says.
 start-left : (c : Controller) (o : Operation) → (numberOf (start c o .answer) ≡ 0 → ⊥)

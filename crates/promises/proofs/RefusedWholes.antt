@@ -9,14 +9,14 @@ use Rattle.model.specs.Refusals.{numberOf, accepts, isDenied}
 use Rattle.model.specs.Checks.{operationAnswer}
 use Rattle.model.specs.Valid.{validWith, bothEmpty}
 use Rattle.model.specs.Errors.{isRecorded, recorded}
-use Rattle.model.specs.Whole.{WholeLeaves, wholeAnswer, shortBuffer, whole}
+use Rattle.model.specs.Whole.{WholeLeaves, wholeAnswer, shortBuffer, whole, leaving}
 use Rattle.model.specs.declared.Operation.{Operation}
 use Rattle.model.specs.declared.Controller.{Controller}
 use Rattle.model.specs.declared.Answer.{Answer}
 use Rattle.model.specs.declared.Answer.the-variants.{ShortBuffer}
 use Rattle.model.proofs.Bool.{and-left, by-test}
-use Rattle.model.proofs.Answers.{unrecorded, unrecorded-undenied, recorded-if-refused}
-use Rattle.plans.specs.Plan.{Plan, Refused, Recorded, Blank, planStarted, planAnswered, planOf, leaving, performed}
+use Rattle.model.proofs.Answers.{unrecorded, unrecorded-undenied}
+use Rattle.plans.specs.Plan.{Plan, Refused, Recorded, Blank, planStarted, planAnswered, planOf, performed}
 use Rattle.plans.proofs.ClosedFormProof.{closed-form}
 use Rattle.promises.specs.Calls.{Whole}
 use Rattle.promises.specs.Refused.{bufferBy, leftBy}
@@ -34,17 +34,17 @@ module _ (c : Controller) (f : Flash) (o : Operation) (b : List ℕ) where
 
   -- One that is refused before its start is not recorded,
   unmoved-left : (a : Answer) → isRecorded (numberOf a) ≡ false → LeavesRefused (Refused a)
-  unfolding LeavesRefused performed
+  unfolding LeavesRefused performed recorded
   unmoved-left a u h = rw (u, unrecorded-undenied (numberOf a) u, and-false)
 
   -- one that does not start is,
-  recorded-left : (a : Answer) → isRecorded (numberOf a) ≡ true → (isRead o && isDenied a) ≡ false → LeavesRefused (Recorded a)
-  unfolding LeavesRefused performed recorded
-  recorded-left a r d h = rw (r, d)
+  recorded-left : (a : Answer) → (isRead o && isDenied a) ≡ false → LeavesRefused (Recorded a)
+  unfolding LeavesRefused performed
+  recorded-left a d h = rw d
 
   -- a denied read is, and delivers ones,
   blank-left : isRead o ≡ true → LeavesRefused (Blank (o .count))
-  unfolding LeavesRefused performed recorded
+  unfolding LeavesRefused performed
   blank-left r h = rw r
 
   -- and what starts is not refused.
@@ -60,7 +60,7 @@ module _ (c : Controller) (f : Flash) (o : Operation) (b : List ℕ) where
       (λ a. rw a (
       by-test (isRead o && isDenied (operationAnswer (c .setup) o))
       (λ d. rw d (blank-left (and-left _ _ d)))
-      (λ d. rw d (recorded-left (operationAnswer (c .setup) o) (recorded-if-refused (c .setup) o a) d))))
+      (λ d. rw d (recorded-left (operationAnswer (c .setup) o) d))))
 
   plan-left : LeavesRefused (planOf c f o b)
   unfolding planOf wholeAnswer

@@ -9,7 +9,7 @@ use Rattle.promises.specs.Calls.{Call, State, Shaped, Reset, SetInputs, 
 use Rattle.promises.specs.Validity.{ValidStays, ResetIsValid}
 use Rattle.promises.proofs.Fields.{Valid, parts, together}
 use Rattle.promises.proofs.KeepSettings.{inputs-keep, region-keeps, default-keeps, page-keeps, erase-keeps}
-use Rattle.promises.proofs.KeepPhases.{fresh-valid, reset-keeps, initialise-keeps, rma-keeps, clear-keeps}
+use Rattle.promises.proofs.KeepPhases.{reset-valid, reset-keeps, initialise-keeps, rma-keeps, clear-keeps}
 use Rattle.promises.proofs.KeepQueues.{push-keeps, pop-keeps}
 use Rattle.promises.proofs.KeepSteps.{step-keeps}
 use Rattle.promises.proofs.KeepStart.{start-keeps}
@@ -47,4 +47,4 @@ valid-stays s (k ∷ ks) h v = let (h', v') = call-keeps s k h v in valid-stays 
 -- Reset makes any state valid.
 pub reset-is-valid : ResetIsValid
 unfolding perform reset
-reset-is-valid s d fit = together (perform s (Reset d) .state .controller) (rw fit (fresh-valid d fit))
+reset-is-valid s d fit = together (perform s (Reset d) .state .controller) (rw fit (reset-valid d fit))

@@ -8,8 +8,8 @@ use lib.ListN.{drop, replicate}
 use Rattle.model.specs.Words.{allOnes}
 use Rattle.model.specs.Kinds.{isRead}
 use Rattle.model.specs.Queue.{emptyQueue}
-use Rattle.model.specs.State.{withErrors, withProgress, withQueues, withReads}
-use Rattle.model.specs.Errors.{isRecorded, joined}
+use Rattle.model.specs.State.{withProgress, withQueues, withReads}
+use Rattle.model.specs.Errors.{withRecorded}
 use Rattle.model.specs.declared.Operation.{Operation}
 use Rattle.model.specs.declared.Work.the-variants.{Read}
 use Rattle.model.specs.declared.Progress.the-variants.{Running}
@@ -20,17 +20,13 @@ use Rattle.promises.specs.Calls.{Call, State, Reply, Reset, SetInputs, S
 abbrev pub isBlank : Operation → ℕ → Bool
 isBlank o n = isRead o && eqb n 9
 
--- Recorded: the error's kind joins the recorded kinds, its address becomes the last one.
-abbrev pub recordedBy : Controller → Operation → ℕ → Controller
-recordedBy c o n = withErrors c (joined n (o .address) (c .errors))
-
--- A start that is recorded has started nothing but a blank read.
+-- A refused start has started nothing but a blank read.
 abbrev pub startedBy : Controller → Operation → ℕ → Controller
-startedBy c o n = withProgress (recordedBy c o n) (cond (isBlank o n) (Running (Read o 0 0)) (c .progress))
+startedBy c o n = withProgress (withRecorded c n o) (cond (isBlank o n) (Running (Read o 0 0)) (c .progress))
 
--- A whole operation that is recorded has run nothing but a blank read, whose words went through the read queue.
+-- A refused whole operation has run nothing but a blank read, whose words went through the read queue.
 abbrev pub drivenBy : Controller → Operation → ℕ → Controller
-drivenBy c o n = withQueues (recordedBy c o n) (cond (isBlank o n) (withReads (c .queues) emptyQueue) (c .queues))
+drivenBy c o n = withQueues (withRecorded c n o) (cond (isBlank o n) (withReads (c .queues) emptyQueue) (c .queues))
 
 -- The lent buffer: a blank read puts ones into its first n places, any other refusal leaves it as it was.
 abbrev pub bufferBy : Operation → List ℕ → ℕ → List ℕ
@@ -45,11 +41,11 @@ leftBy c (SetDefault r) n = c
 leftBy c (SetInfo bank t page p) n = c
 leftBy c (SetErase bank on) n = c
 leftBy c Initialise n = c
-leftBy c (Start o) n = cond (isRecorded n) (startedBy c o n) c
+leftBy c (Start o) n = startedBy c o n
 leftBy c Step n = c
 leftBy c (Push w) n = c
 leftBy c Pop n = c
-leftBy c (Whole o b) n = cond (isRecorded n) (drivenBy c o n) c
+leftBy c (Whole o b) n = drivenBy c o n
 leftBy c (HostRead a) n = c
 leftBy c (ViewPage p) n = c
 leftBy c Clear n = c

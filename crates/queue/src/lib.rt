@@ -4,13 +4,15 @@ ghost use Prim.Native.Nat.{_+_, _-_, _<_, _≤_};
 ghost use mathlib.Core.List.{_++_};
 ghost use lib.ListN.{take, drop, replicate};
 ghost use Rattle.model.specs.Queue.{emptyQueue, isFull, pushed, oldest, popped};
+use model::QUEUE_WORDS;
 use model::Queue;
+use model::WIDE_QUEUE_WORDS;
 
 pub fn empty() -> Queue
     ensures { λ r. ⌜ r ≡ emptyQueue ⌝ }
 {
     Queue {
-        words: [0u32; 16],
+        words: [0u32; WIDE_QUEUE_WORDS],
         len: 0,
     }
 }
@@ -18,15 +20,15 @@ pub fn empty() -> Queue
 pub fn is_full(q: Queue) -> bool
     ensures { λ r. ⌜ r ≡ isFull q ⌝ }
 {
-    16 <= q.len
+    QUEUE_WORDS <= q.len
 }
 
 // `count` words of `old` from `from` on, and zeros after them.
-fn kept(old: [u32; 16], from: usize, count: usize) -> [u32; 16]
+fn kept(old: [u32; WIDE_QUEUE_WORDS], from: usize, count: usize) -> [u32; WIDE_QUEUE_WORDS]
     requires { ⌜ from + count ≤ 16 ⌝ }
     ensures { λ r. ⌜ r ≡ take count (drop from old) ++ replicate (16 - count) 0 ⌝ }
 {
-    let mut words = [0u32; 16];
+    let mut words = [0u32; WIDE_QUEUE_WORDS];
     for i in 0..count {
         words[i] = old[from + i];
     }

@@ -20,6 +20,7 @@ use Rattle.promises.specs.Calls.{State, Call, SetInputs, SetRegion, SetDefault,
 use Rattle.promises.specs.Refused.{leftBy}
 use Rattle.promises.proofs.Validity.{call-keeps}
 use Rattle.promises.proofs.RefusedProof.{refused-moves-nothing}
+use Rattle.promises.proofs.Unrecorded.{start-unrecorded, whole-unrecorded}
 use Rattle.registers.specs.Layout.{registerCount}
 use Rattle.registers.specs.Registers.{decode, handBack}
 use Rattle.registers.proofs.There.{Shaped, handed-back, stands-shaped}
@@ -101,11 +102,13 @@ refines-on s long = record {
   default = λ r. plain s long noFlash (SetDefault r) (λ v. rw v) (λ n. refl) (λ e b. rw e b);
   info = λ bank t page p. plain s long noFlash (SetInfo bank t page p) (λ v. rw v) (λ n. refl) (λ e b. rw e b);
   erase = λ bank on. plain s long noFlash (SetErase bank on) (λ v. rw v) (λ n. refl) (λ e b. rw e b);
-  starts = λ o small. recording s long noFlash (Start o) (λ v. rw v) (λ n e. rw e) (start-bytes (decode s) o (omega arith));
+  starts = λ o small. recording s long noFlash (Start o) (λ v. rw v) (start-unrecorded (decode s) o) (start-bytes (decode s) o (omega arith));
   steps = λ f. plain s long f Step (λ v. rw v) (λ n. refl) (λ e. step-bytes (decode s) f);
   pushes = λ w. plain s long noFlash (Push w) (λ v. rw v) (λ n. refl) (λ e b. rw e b);
   pops = plain s long noFlash Pop (λ v. rw v) (λ n. refl) (λ e b. rw e b);
-  completes = λ f o buffer. recording s long f (Whole o buffer) (λ v. rw v) (λ n e. rw e) (λ b. rw (whole-same (decode s) f o buffer) b);
+  completes = λ f o buffer.
+      recording s long f (Whole o buffer) (λ v. rw v) (λ n e. whole-unrecorded (decode s) o n e buffer)
+      (λ b. rw (whole-same (decode s) f o buffer) b);
   clears = plain s long noFlash Clear (λ v. rw v) (λ n. refl) (λ e b. rw e b);
 }
 

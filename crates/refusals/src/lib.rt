@@ -120,7 +120,7 @@ pub fn no_errors() -> Errors
 
 // Refusals 5, 7, 8 and 9 join the record, with their address.
 pub fn recorded(answer: Answer, address: ByteAddress, e: Errors) -> Errors
-    ensures { λ r. ⌜ r ≡ recorded answer address e ⌝ }
+    ensures { λ r. ⌜ r ≡ recorded (numberOf answer) address e ⌝ }
 {
     let n = number_of(answer);
     let malformed = n == 5;

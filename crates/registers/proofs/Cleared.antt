@@ -5,7 +5,7 @@ use mathlib.Core.Path.{_≡_, refl, ap, sym, _∙_}
 use mathlib.Core.List.{List, [], _∷_}
 use lib.ListN.{length, set, replicate}
 use Rattle.model.specs.Queue.{queueOf}
-use Rattle.model.specs.State.{freshController}
+use Rattle.model.specs.State.{resetController}
 use Rattle.registers.specs.Registers.{regionsOf, infoOf, progressAt, standsFor, encoded, decode, zeroed, cleared}
 
 -- The first register of those that are left is 0 next,
@@ -33,7 +33,7 @@ zeroed-all [] = refl
 zeroed-all (x ∷ s) = zeroed-behind 0 s 0 (length s) ∙ ap (λ (t : List ℕ). 0 ∷ t) (zeroed-all s)
 
 -- Registers that are all 0 but D stand for the controller after reset.
-pub decode-cleared : (s : List ℕ) (d : ℕ) → length s ≡ 135 → decode (cleared s d) ≡ freshController d
+pub decode-cleared : (s : List ℕ) (d : ℕ) → length s ≡ 135 → decode (cleared s d) ≡ resetController d
 unfolding cleared decode encoded standsFor regionsOf infoOf progressAt queueOf
 decode-cleared s d long =
     let zeros : zeroed s 0 135 ≡ replicate 135 0 = ap (zeroed s 0) (sym long) ∙ zeroed-all s ∙ ap (λ (n : ℕ). replicate n 0) long in

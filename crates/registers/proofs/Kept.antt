@@ -10,7 +10,7 @@ use lib.Dec.{leb, eqb}
 use lib.ListN.{length, getD, set}
 use lib.Seq.{sets, set-getD, getD-set-other}
 use borrow.Author.Tests.{leb-true, eqb-true}
-use Rattle.model.specs.State.{freshController}
+use Rattle.model.specs.State.{resetController}
 use Rattle.model.specs.Valid.{all, valid}
 use Rattle.model.specs.declared.Controller.{Controller}
 use Rattle.model.proofs.Bool.{and-left, and-right, by-test}
@@ -271,7 +271,7 @@ module _ {s : List ℕ} (p : Parts s) where
   head-kept = rw (phase-back (getD s 1 0) (p .phase), held s 0 refl) (held s 1 refl)
 
 -- Numbers that stand for a valid state encode it.
-either : (b : Bool) (c : Controller) → valid (cond b c (freshController 0)) ≡ true → b ≡ true
+either : (b : Bool) (c : Controller) → valid (cond b c (resetController 0)) ≡ true → b ≡ true
 unfolding valid
 either true c h = refl
 either false c h = h

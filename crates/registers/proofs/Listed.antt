@@ -1,15 +1,14 @@
 -- What stands in a list that a function of the place makes, copied element by element, and put back. Assumes nothing.
-use Prim.Native.Nat.{ℕ, zero, suc, _+_, _-_, _<_, _≤_}
+use Prim.Native.Nat.{ℕ, zero, suc, _+_, _<_, _≤_}
 use native.Mathlib.Nat.{not-suc-le-zero, le-of-suc-le-suc, add-zero, eq-or-lt-of-le}
-use native.Mathlib.Numerals.{add-one}
 use native.Mathlib.Omega.{arith}
 use mathlib.Core.Path.{_≡_, refl, ap, sym, subst, _∙_}
 use mathlib.Core.Logic.{⊎-elim}
 use mathlib.Core.Bool.{Bool, true, false, _&&_}
 use Rattle.model.specs.Valid.{all}
-use mathlib.Core.List.{List, [], _∷_}
-use lib.ListN.{length, getD, set, drop}
-use lib.Seq.{sets, set-getD, drop-cons, getD-set-same, getD-set-other, ext-getD}
+use mathlib.Core.List.{List}
+use lib.ListN.{length, getD, set}
+use lib.Seq.{sets, set-getD, getD-set-same, getD-set-other, ext-getD}
 use Rattle.model.specs.declared.Region.{Region}
 use Rattle.model.specs.declared.PageSetting.{PageSetting}
 use Rattle.registers.specs.Registers.{listed, every, regionAt, settingAt, regionsOf, infoOf}

@@ -25,7 +25,7 @@ use Rattle.model.specs.declared.Controller.{Controller}
 use Rattle.model.proofs.Bool.{and-left, and-right, by-test}
 use Rattle.registers.specs.Registers.{isFlag, isOn, flagOf, maskOf, phaseOf, phaseNumber, listed, every, progressEncoded, regionEncoded, settingEncoded, regionAt, settingAt, queueAt, errorsAt}
 use Rattle.registers.specs.Registers.{progressAt, operationAt, putQueue, readableKept, putProgress, putRunning, putRegion, putSetting, putErase, putAll, putFromErrors, putFromPrograms}
-use Rattle.registers.specs.Registers.{putFromReads, putFromProgress, putFromErase, putFromInfo, putFromRegions, putFromInputs, put}
+use Rattle.registers.specs.Registers.{putFromReads, putFromProgress, putFromErase, putFromInfo, putFromRegions, putFromInputs}
 use Rattle.registers.proofs.Listed.{listed-length, listed-at, Copied, copied-all}
 
 -- ---- one number

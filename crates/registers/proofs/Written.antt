@@ -7,7 +7,6 @@ use mathlib.Core.Bool.{Bool, true, false, cond}
 use mathlib.Core.List.{List, [], _∷_}
 use lib.ListN.{length, getD, set}
 use lib.Seq.{sets, set-comm, set-set}
-use Rattle.model.specs.Valid.{all}
 use Rattle.model.specs.State.{withPhase, withInputs, withSettings, withErrors, withQueues, withProgress, withReads, withPrograms, isBusy}
 use Rattle.model.specs.Settings.{withRegion, withPage, withDefault, withErase}
 use Rattle.model.specs.declared.Phase.{Phase}

@@ -6,8 +6,9 @@ use mathlib.Core.List.{List, [], _∷_}
 use lib.Dec.{leb, eqb}
 use lib.ListN.{getD, set}
 use lib.Seq.{sets}
+use Rattle.model.specs.Kinds.{isRead, isProgram}
 use Rattle.model.specs.Valid.{all}
-use Rattle.model.specs.State.{freshController}
+use Rattle.model.specs.State.{resetController}
 use Rattle.registers.specs.Layout.{registerCount, pagesAt, phaseAt, provisionAt, lockedAt, defaultAt, regionFrom, pageFrom, permissionAt, addressAt, countAt, kindAt, partitionAt, typeAt, movedAt, readableAt, runningAt, readsFrom, programsFrom, recordedAt, lastAt}
 use Rattle.model.specs.declared.Phase.{Phase}
 use Rattle.model.specs.declared.Phase.the-variants.{Uninitialised, Ready, Disabled}
@@ -90,8 +91,8 @@ operationAt s = record {
 
 abbrev pub workAt : List ℕ → Work
 workAt s =
-    cond (eqb (getD s kindAt 0 % 256) 0) (Read (operationAt s) (getD s movedAt 0) (getD s readableAt 0))
-    (cond (eqb (getD s kindAt 0 % 256) 1) (Program (operationAt s) (getD s movedAt 0))
+    cond (isRead (operationAt s)) (Read (operationAt s) (getD s movedAt 0) (getD s readableAt 0))
+    (cond (isProgram (operationAt s)) (Program (operationAt s) (getD s movedAt 0))
     (Erase (operationAt s) (getD s movedAt 0)))
 
 unfoldable pub progressAt : List ℕ → Progress
@@ -163,7 +164,7 @@ encoded s = plainEncoded s && (progressEncoded s && (every (regionEncoded s) 8 &
 -- The controller that the registers stand for. What encodes nothing stands for one that is not valid (01: not ours), with a D
 -- of 0: every call answers 1, but reset, which takes any state.
 unfoldable pub decode : List ℕ → Controller
-decode s = cond (encoded s) (standsFor s) (freshController 0)
+decode s = cond (encoded s) (standsFor s) (resetController 0)
 
 -- ---- what is written to put a part into the registers
 

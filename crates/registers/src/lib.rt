@@ -1,7 +1,6 @@
 // The registers: the state as numbers that the caller lends, changed where they lie. Each part is read as the model's own
 // type, and no other crate knows where it lies.
 ghost use mathlib.Core.Path.{_≡_};
-ghost use mathlib.Core.Bool.{false};
 ghost use Prim.Native.Nat.{_<_, _≤_, _%_};
 ghost use lib.ListN.{getD, set};
 ghost use Rattle.registers.specs.Layout.{pagesAt, phaseAt, defaultAt, permissionAt, movedAt, readsFrom, programsFrom};
@@ -16,6 +15,7 @@ use model::Phase;
 use model::Progress;
 use model::Queue;
 use model::Region;
+use model::WIDE_QUEUE_WORDS;
 use model::Work;
 
 // ---- where each part lies
@@ -63,7 +63,7 @@ const RECORDED: usize = 133;
 const LAST: usize = 134;
 
 // A queue has 16 words, and then their number.
-const LENGTH: usize = 16;
+const LENGTH: usize = WIDE_QUEUE_WORDS;
 
 pub type Registers = [u32; COUNT];
 
@@ -161,7 +161,7 @@ fn work(s: &Registers) -> Work
 {
     let op = operation(s);
     let moved = s[MOVED];
-    if op.kind == 0 {
+    if places::is_read(op) {
         let readable = s[READABLE];
         return Work::Read {
             op,
@@ -169,7 +169,7 @@ fn work(s: &Registers) -> Work
             readable,
         };
     }
-    if op.kind == 1 {
+    if places::is_program(op) {
         return Work::Program { op, moved };
     }
     Work::Erase { op, moved }
@@ -206,7 +206,7 @@ fn queue(s: &Registers, at: usize) -> Queue
     requires { ⌜ at ≤ 116 ⌝ }
     ensures { λ r. ⌜ r ≡ queueAt (now (s .entry)) at ⌝ }
 {
-    let mut words = [0u32; 16];
+    let mut words = [0u32; WIDE_QUEUE_WORDS];
     for i in 0..16usize {
         words[i] = s[at + i];
     }

@@ -2,7 +2,9 @@
 ghost use mathlib.Core.Path.{_≡_};
 ghost use Prim.Native.Nat.{_<_};
 ghost use Rattle.model.specs.Rights.{grants, decides, seedClosed, pageRights};
+use model::CREATOR_PAGE;
 use model::Inputs;
+use model::OWNER_PAGE;
 use model::Page;
 use model::PageSetting;
 use model::Region;
@@ -27,12 +29,16 @@ pub fn decides(p: Page, g: Region) -> bool
     g.on & (after & before)
 }
 
-// Information page 1 is the creator seed page and 2 the owner seed page, both of bank 0 and type 0.
+// The seed pages' places among the 26 settings: the first 10 are the pages of bank 0 and type 0.
+const CREATOR: usize = CREATOR_PAGE as usize;
+
+const OWNER: usize = OWNER_PAGE as usize;
+
 pub fn seed_closed(i: Inputs, page: usize) -> bool
     ensures { λ r. ⌜ r ≡ seedClosed i page ⌝ }
 {
-    let creator = page == 1;
-    let owner = page == 2;
+    let creator = page == CREATOR;
+    let owner = page == OWNER;
     let both = i.provision & !i.locked;
     (creator & !both) | (owner & !i.provision)
 }

@@ -8,7 +8,7 @@ use Rattle.model.specs.Geometry.{imagePage, wordAt}
 use Rattle.model.specs.Words.{allOnes, programmed}
 use Rattle.model.specs.Places.{totalWords, placeOf}
 use Rattle.model.specs.Queue.{queueOf}
-use Rattle.model.specs.State.{stored, flashFits, freshController}
+use Rattle.model.specs.State.{stored, flashFits, resetController}
 use Rattle.model.specs.Refusals.{accepts}
 use Rattle.model.specs.Rights.{dataRights, rightsAt, leading, allowedWords, denied}
 use Rattle.model.specs.Checks.{malformed, outOfRange, crossesWindow, operationAnswer}
@@ -32,7 +32,7 @@ abbrev start : State
 start = record {
   controller =
       ready 11776
-      (setRegion (setDefault (reset (freshController 0) 10 .controller) 7 .controller) 0 (region true 0 1 2) .controller);
+      (setRegion (setDefault (reset (resetController 0) 10 .controller) 7 .controller) 0 (region true 0 1 2) .controller);
   flash = blank 11776;
 }
 

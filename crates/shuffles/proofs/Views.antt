@@ -67,8 +67,8 @@ queuesAfter (Erases ps) q = q
 -- and the error record.
 abbrev pub errorsAfter : Plan → ByteAddress → Errors → Errors
 errorsAfter (Refused a) at e = e
-errorsAfter (Recorded a) at e = recorded a at e
-errorsAfter (Blank n) at e = recorded Denied at e
+errorsAfter (Recorded a) at e = recorded (numberOf a) at e
+errorsAfter (Blank n) at e = recorded (numberOf Denied) at e
 errorsAfter (Reads ps) at e = e
 errorsAfter (Programs ps) at e = e
 errorsAfter (Erases ps) at e = e
@@ -98,8 +98,8 @@ queues-empty (Erases ps) q h = h
 -- A record that fits still does.
 errors-fit : (p : Plan) (at : ByteAddress) (e : Errors) → errorsFit e ≡ true → errorsFit (errorsAfter p at e) ≡ true
 errors-fit (Refused a) at e h = h
-errors-fit (Recorded a) at e h = recorded-fits a at e h
-errors-fit (Blank n) at e h = recorded-fits Denied at e h
+errors-fit (Recorded a) at e h = recorded-fits (numberOf a) at e h
+errors-fit (Blank n) at e h = recorded-fits (numberOf Denied) at e h
 errors-fit (Reads ps) at e h = h
 errors-fit (Programs ps) at e h = h
 errors-fit (Erases ps) at e h = h
@@ -162,11 +162,11 @@ kindsBy (Programs ps) = noKinds
 kindsBy (Erases ps) = noKinds
 
 -- An answer's kind joins, if it has one.
-kind-joins : (a : Answer) (at : ByteAddress) (e : Errors) → kindsIn (recorded a at e) ≡ union (kindsIn e) (kindIs a)
+kind-joins : (a : Answer) (at : ByteAddress) (e : Errors) → kindsIn (recorded (numberOf a) at e) ≡ union (kindsIn e) (kindIs a)
 unfolding recorded
 kind-joins a at e = by-test (isRecorded (numberOf a)) (λ t. rw t) other
   where
-    other : isRecorded (numberOf a) ≡ false → kindsIn (recorded a at e) ≡ union (kindsIn e) (kindIs a)
+    other : isRecorded (numberOf a) ≡ false → kindsIn (recorded (numberOf a) at e) ≡ union (kindsIn e) (kindIs a)
     other t =
         let five : eqb (numberOf a) 5 ≡ false = or-left (eqb (numberOf a) 5) _ t in
         let t₁ = or-right (eqb (numberOf a) 5) _ t in

@@ -14,9 +14,11 @@ ghost use Rattle.steps.specs.Stepping.{Moves, toldMoved, registersMoved}
 use calls::ToldStep;
 use model::Answer;
 use model::BusWord;
+use model::ERASED;
 use model::Movement;
 use model::Operation;
 use model::Progress;
+use model::QUEUE_WORDS;
 use model::Work;
 use registers::Registers;
 
@@ -60,7 +62,7 @@ fn stalls(s: &Registers, w: Work) -> bool
     ensures { λ r. ⌜ r ≡ stalls (standsFor (now (s .entry)) .queues) w ⌝ }
 {
     match w {
-        Work::Read { .. } => 16 <= registers::read_count(s),
+        Work::Read { .. } => QUEUE_WORDS <= registers::read_count(s),
         Work::Program { .. } => registers::program_count(s) == 0,
         Work::Erase { .. } => false,
     }
@@ -75,7 +77,7 @@ fn read_word(image: &[u32], place: BusWord, k: u32, readable: u32) -> u32
     if k < readable {
         return image[at];
     }
-    0xFFFF_FFFF
+    ERASED
 }
 
 // Of a read, the next word goes to the read queue.

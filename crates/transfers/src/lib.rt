@@ -9,6 +9,7 @@ ghost use Rattle.model.specs.Places.{totalWords};
 ghost use Rattle.plans.specs.Plan.{placesOf, deliveredAt, stored-all, changed-all, programming, erasing};
 ghost use Rattle.registers.specs.Registers.{setupOf};
 ghost use Rattle.transfers.specs.Placed.{Placed};
+use model::ERASED;
 use model::Operation;
 use registers::Registers;
 
@@ -30,7 +31,7 @@ pub fn blank(buffer: &mut [u32], count: usize)
     ensures { λ _. ⌜ now (buffer .exit) ≡ replicate count allOnes ++ drop count (now (buffer .entry)) ⌝ }
 {
     for k in 0..count {
-        buffer[k] = 0xFFFF_FFFF;
+        buffer[k] = ERASED;
     }
 }
 

@@ -1,26 +1,22 @@
 -- Numbers that stand for a valid state stand for what is read where it lies. Assumes nothing.
 use Prim.Native.Nat.{ℕ, _%_}
 use mathlib.Core.Path.{_≡_, refl, ap, sym, _∙_}
-use mathlib.Core.Bool.{Bool, true, false, cond, _&&_, false≢true}
+use mathlib.Core.Bool.{Bool, true, false, cond, _&&_}
 use lib.ListN.{getD}
 use mathlib.Core.List.{List}
 use Rattle.model.specs.Geometry.{pagesFit}
 use Rattle.model.specs.Valid.{valid, settingsFit, all, regionFits, pageFits, rightsFit, errorsFit, queuesFit, progressFits, runningFits}
 use Rattle.validity.specs.Rest.{restFits}
-use Rattle.model.specs.State.{freshController, isReady}
+use Rattle.model.specs.State.{resetController, isReady}
 use Rattle.model.specs.Refusals.{readyAnswer}
 use Rattle.model.specs.declared.Controller.{Controller}
 use Rattle.registers.specs.Layout.{pagesAt, phaseAt, defaultAt}
+use Rattle.registers.proofs.Kept.{valid-encoded}
 use Rattle.registers.specs.Registers.{encoded, standsFor, decode, every, regionEncoded, settingEncoded, plainEncoded, progressEncoded, regionsOf, infoOf, phaseOf}
-
-either : (b : Bool) (c : Controller) → valid (cond b c (freshController 0)) ≡ true → cond b c (freshController 0) ≡ c
-unfolding valid
-either true c h = refl
-either false c h = absurd (false≢true h)
 
 pub taken-stands : (s : List ℕ) → valid (decode s) ≡ true → decode s ≡ standsFor s
 unfolding decode
-taken-stands s h = either (encoded s) (standsFor s) h
+taken-stands s h = rw (valid-encoded s h)
 
 -- Check 1 comes first, so that the phase may be read where it lies.
 pub ready-same : (s : List ℕ) (fits : Bool) → (fits ≡ true → valid (decode s) ≡ true)
@@ -53,10 +49,10 @@ order true true true true true false true true x = refl
 order true true true true true true g false x = refl
 order true true true true true true g true x = refl
 
-fresh-fails : (b : Bool) (c : Controller) → valid (cond b c (freshController 0)) ≡ cond b (valid c) false
+reset-fails : (b : Bool) (c : Controller) → valid (cond b c (resetController 0)) ≡ cond b (valid c) false
 unfolding valid
-fresh-fails true c = refl
-fresh-fails false c = refl
+reset-fails true c = refl
+reset-fails false c = refl
 
 valid-by : (s : List ℕ) → valid (decode s) ≡ cond (tables s) (restFits s) false
 unfolding decode encoded restFits valid settingsFit standsFor
@@ -65,7 +61,7 @@ valid-by s =
     let queued : Bool = queuesFit (isReady (c .phase)) (c .queues) in
     let held : Bool = progressFits (isReady (c .phase)) (c .progress) in
     let running : Bool = runningFits (c .setup) (c .queues .programs) (c .progress) in
-    fresh-fails (encoded s) c
+    reset-fails (encoded s) c
     ∙ order (plainEncoded s) (progressEncoded s) (every (regionEncoded s) 8) (every (settingEncoded s) 26)
     (all (regionFits (getD s pagesAt 0)) (regionsOf s)) (all pageFits (infoOf s)) (pagesFit (getD s pagesAt 0))
     (rightsFit (getD s defaultAt 0 % 256)) (errorsFit (c .errors) && (queued && (held && running)))

@@ -12,6 +12,7 @@ ghost use Rattle.registers.specs.Registers.{regionsOf, infoOf, standsFor, decod
 ghost use Rattle.validity.specs.Rest.{restFits};
 use model::Answer;
 use model::Progress;
+use model::QUEUE_WORDS;
 use model::Work;
 use registers::Registers;
 
@@ -48,7 +49,7 @@ fn queues_fit(s: &Registers, ready: bool) -> bool
 {
     let reads = registers::read_count(s);
     let programs = registers::program_count(s);
-    let small = (reads <= 16) & (programs <= 16);
+    let small = (reads <= QUEUE_WORDS) & (programs <= QUEUE_WORDS);
     let none = (reads == 0) & (programs == 0);
     small & (ready | none)
 }

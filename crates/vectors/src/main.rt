@@ -14,9 +14,9 @@ use registers::Registers;
 
 // The order of 3 and 5.
 fn no_kind(s: &Registers) {
-    print::text(b"fresh controller: ");
-    let fresh = given::all_rights();
-    cases::case(&fresh, data(9, 0x0000, 1));
+    print::text(b"uninitialised controller: ");
+    let uninitialised = given::all_rights();
+    cases::case(&uninitialised, data(9, 0x0000, 1));
     print::text(b"ready controller: ");
     cases::case(s, data(9, 0x0000, 1));
 }

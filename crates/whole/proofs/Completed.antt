@@ -1,19 +1,18 @@
 -- What a whole operation leaves of the registers, by the tests that the code makes. Assumes nothing.
 use Prim.Native.Nat.{ℕ}
 use mathlib.Core.Path.{_≡_, refl, ap, sym, subst, _∙_}
-use mathlib.Core.Bool.{true, false, _&&_, _||_, not, or-true}
+use mathlib.Core.Bool.{true, false, _&&_, _||_, not}
 use mathlib.Core.List.{List, _++_}
 use lib.Dec.{eqb}
-use lib.ListN.{length, getD, drop, replicate}
+use lib.ListN.{length, drop, replicate}
 use Rattle.model.specs.Words.{allOnes}
-use Rattle.model.specs.Kinds.{isRead}
 use Rattle.model.specs.Queue.{emptyQueue, queueOf}
 use Rattle.model.specs.State.{Flash, isBusy}
 use Rattle.model.specs.Refusals.{numberOf, accepts, isDenied, check, readyAnswer}
 use Rattle.model.specs.Checks.{operationAnswer}
 use Rattle.model.specs.Errors.{isRecorded, recorded}
 use Rattle.model.specs.Valid.{bothEmpty, valid, validWith}
-use Rattle.model.specs.Whole.{wholeAnswer, shortBuffer, whole}
+use Rattle.model.specs.Whole.{wholeAnswer, shortBuffer, whole, leaving}
 use Rattle.model.specs.declared.BusWord.{BusWord}
 use Rattle.model.specs.declared.Operation.{Operation}
 use Rattle.model.specs.declared.Controller.{Controller}
@@ -22,7 +21,7 @@ use Rattle.model.specs.declared.Answer.the-variants.{Busy, Denied}
 use Rattle.model.proofs.Answers.{unrecorded, recorded-if-refused, both-accept}
 use Rattle.model.proofs.Moving.{with-valid}
 use Rattle.model.proofs.Accepting.{ready-valid}
-use Rattle.plans.specs.Plan.{Reads, Programs, Erases, Blank, Recorded, leaving, planOf, planAnswered, performed, deliveredAt, stored-all, changed-all, programming, erasing}
+use Rattle.plans.specs.Plan.{Reads, Programs, Erases, Blank, Recorded, planOf, planAnswered, performed, deliveredAt, stored-all, changed-all, programming, erasing}
 use Rattle.plans.proofs.ClosedFormProof.{closed-form}
 use Rattle.registers.specs.Layout.{readsFrom, programsFrom}
 use Rattle.registers.specs.Registers.{encoded, setupOf, standsFor, decode, queueAt, errorsAt, progressAt, putQueue, putErrors}
@@ -144,18 +143,18 @@ module _ (s : List ℕ) (f : Flash) (o : Operation) (b : List ℕ) (h : encoded 
 
     pub left-recorded : record {
       told = record { answer = numberOf a; bits = 0 };
-      registers = putErrors s (recorded a (o .address) (errorsAt s));
+      registers = putErrors s (recorded (numberOf a) (o .address) (errorsAt s));
       flash = f;
       buffer = b;
     }
         ≡ wholeLeft s (performed (standsFor s) f o b (Recorded a))
     unfolding performed standsFor
-    left-recorded = rw (refused, told-so, put-errors s h (recorded a (o .address) (errorsAt s)))
+    left-recorded = rw (refused, told-so, put-errors s h (recorded (numberOf a) (o .address) (errorsAt s)))
 
     -- and a denied read is blank.
     pub left-blank : isDenied a ≡ true → record {
       told = record { answer = numberOf a; bits = 0 };
-      registers = putErrors (putQueue s readsFrom emptyQueue) (recorded a (o .address) (errorsAt s));
+      registers = putErrors (putQueue s readsFrom emptyQueue) (recorded (numberOf a) (o .address) (errorsAt s));
       flash = f;
       buffer = replicate (o .count) allOnes ++ drop (o .count) b;
     }
@@ -163,4 +162,4 @@ module _ (s : List ℕ) (f : Flash) (o : Operation) (b : List ℕ) (h : encoded 
     unfolding performed standsFor
     left-blank d =
         let named : a ≡ Denied = asked ∙ told-denied (setupOf s) o (rw asked at d) in
-        rw (named, put-reads-recorded s h (recorded Denied (o .address) (errorsAt s)) emptyQueue empty-places)
+        rw (named, put-reads-recorded s h (recorded (numberOf Denied) (o .address) (errorsAt s)) emptyQueue empty-places)

@@ -76,7 +76,7 @@ fn started(s: &mut Registers, image: &mut [u32], o: Operation, buffer: &mut [u32
 
 // The error record with a refusal of 5, 7, 8 or 9 in it.
 fn recorded(s: &Registers, answer: Answer, o: Operation) -> Errors
-    ensures { λ r. ⌜ r ≡ recorded answer (o .address) (errorsAt (now (s .entry))) ⌝ }
+    ensures { λ r. ⌜ r ≡ recorded (numberOf answer) (o .address) (errorsAt (now (s .entry))) ⌝ }
 {
     let address = o.address;
     refusals::recorded(answer, address, registers::errors(s))

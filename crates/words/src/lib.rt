@@ -4,6 +4,7 @@ ghost use Prim.Native.Nat.{_<_, _≤_};
 ghost use lib.ListN.{length, getD, set};
 ghost use Rattle.model.specs.Words.{programmed, changedBits, allOnes};
 use model::BusWord;
+use model::ERASED;
 
 // A bit stays one only if both are one.
 pub fn programmed(old: u32, new: u32) -> u32
@@ -50,7 +51,7 @@ pub fn erase_word(image: &mut [u32], at: BusWord) -> u32
 {
     let place = at.0 as usize;
     let old = image[place];
-    let ones = 0xFFFF_FFFFu32;
+    let ones = ERASED;
     image[place] = ones;
     changed_bits(old, ones)
 }

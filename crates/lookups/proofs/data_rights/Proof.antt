@@ -3,7 +3,7 @@ use Prim.Native.Nat.{_≤_, _-_, _%_}
 use mathlib.Core.Path.{_≡_, ap, sym, _∙_}
 use native.Mathlib.Omega.{arith}
 use borrow.Author.Needs.{needs}
-use lib.ListN.{length, getD}
+use lib.ListN.{getD}
 use Rattle.model.specs.State.{regionOff}
 use Rattle.model.specs.Rights.{decides}
 use Rattle.model.specs.declared.Region.{Region}

@@ -1,6 +1,5 @@
 -- `lookups::denied` meets its contract. Assumes nothing.
 use mathlib.Core.Path.{sym, _∙_}
-use borrow.Author.Needs.{needs}
 use native.Mathlib.Omega.{arith}
 use Rattle.model.specs.Rights.{denied}
 use Rattle.model.proofs.Checks.{span-words-le}

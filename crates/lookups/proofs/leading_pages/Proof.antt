@@ -10,7 +10,7 @@ use Rattle.lookups.proofs.leading_pages.Statement.{statement}
 use Rattle.lookups.proofs.leading_pages.Tie as tie
 
 abbrev Inv-loop : tie.InvT-loop
-Inv-loop s o from count i₀ i = (i ≤ count) × Passed (pageGrants (standsFor s .setup) o) from count i
+Inv-loop s o from count i₀ i = (i ≤ count) × Passed (pageGrants (standsFor s .setup) o) (from .0) count i
 
 abbrev μ-loop : tie.MeasureT-loop
 μ-loop s o from count i₀ i = count - i
@@ -23,8 +23,8 @@ leading-pages-spec =
     (λ c. (search needs, passed-none))
     (λ c. search needs)
     (λ c κs. tt)
-    (λ c. (passed-until (search needs) (c .before .before .before .loop .inv .1) (sym (c .before .page-grants .ensures) ∙ not-true _ (c .if1 .taken)), search needs))
+    (λ c. (passed-until (search needs) (c .before .before .before .before .loop .inv .1) (sym (c .before .page-grants .ensures) ∙ not-true _ (c .if1 .taken)), search needs))
     (λ c. search needs)
     (λ c. search needs)
-    (λ c. (search needs, passed-more (search needs) (c .before .before .before .loop .inv .1) (sym (c .before .page-grants .ensures) ∙ not-false _ (c .if1 .left))))
+    (λ c. (search needs, passed-more (search needs) (c .before .before .before .before .loop .inv .1) (sym (c .before .page-grants .ensures) ∙ not-false _ (c .if1 .left))))
     (λ c. (passed-all (search needs) (c .before .loop .inv .1), search needs)))

@@ -5,7 +5,6 @@ use Rattle.model.specs.Checks.{malformed, operationAnswer}
 use mathlib.Core.Bool.{false}
 use Rattle.model.specs.declared.Answer.the-variants.{Malformed}
 use Rattle.model.proofs.Answers.{check-passed}
-use borrow.Author.Needs.{needs}
 use Rattle.registers.specs.Registers.{standsFor}
 use Rattle.lookups.proofs.operation_answer.Statement.{statement}
 use Rattle.lookups.proofs.operation_answer.Tie as tie

@@ -1,5 +1,4 @@
 -- `lookups::rights_at` meets its contract. Assumes nothing.
-use borrow.Author.Needs.{needs}
 use Rattle.model.specs.Rights.{rightsAt}
 use Rattle.registers.specs.Registers.{standsFor}
 use Rattle.lookups.proofs.rights_at.Statement.{statement}

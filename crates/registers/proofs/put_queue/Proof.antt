@@ -1,12 +1,12 @@
 -- `registers::put_queue` meets its contract. The loop's invariant: the first i words are in place. Assumes nothing.
 use Prim.Native.Nat.{suc, _≤_, _-_, _+_}
 use mathlib.Core.List.{[]}
-use mathlib.Core.Path.{_≡_, sym, _∙_}
+use mathlib.Core.Path.{_≡_}
 use native.Mathlib.Numerals.{add-one}
 use native.Mathlib.Omega.{arith}
 use borrow.Author.Needs.{needs}
 use native.Mathlib.Nat.{add-zero}
-use lib.ListN.{length, drop, getD, drop-of-length-le}
+use lib.ListN.{length, drop, drop-of-length-le}
 use lib.Seq.{sets, drop-cons}
 use Rattle.registers.proofs.put_queue.Statement.{statement}
 use Rattle.registers.proofs.put_queue.Tie as tie

@@ -1,6 +1,6 @@
 -- `registers::work` meets its contract. Assumes nothing.
+use mathlib.Core.Path.{sym, _∙_}
 use borrow.Author.Needs.{needs}
-use borrow.Author.Tests.{eq-eqb, ne-eqb}
 use Rattle.registers.proofs.work.Statement.{statement}
 use Rattle.registers.proofs.work.Tie as tie
 
@@ -9,7 +9,18 @@ work-spec =
     tie.close (tie.spec
     (λ c κs. tt)
     (λ c. search needs)
+    (λ c κs. tt)
     (λ c. search needs)
-    (λ c. let op = c .before .before .before .before .operation .ensures in simp (op, eq-eqb _ _ (rw op at (c .before .if1 .taken))))
-    (λ c. let op = c .before .before .before .before .before .operation .ensures in simp (op, ne-eqb _ _ (rw op at (c .before .before .if1 .left)), eq-eqb _ _ (rw op at (c .if2 .taken))))
-    (λ c. let op = c .before .before .before .before .before .operation .ensures in simp (op, ne-eqb _ _ (rw op at (c .before .before .if1 .left)), ne-eqb _ _ (rw op at (c .if2 .left)))))
+    (λ c.
+    let t = c .before in
+    let op = t .before .before .before .operation .ensures in
+    simp (op, rw op at (sym (t .before .is-read .ensures) ∙ t .if1 .taken)))
+    (λ c κs. tt)
+    (λ c.
+    let t = c .before .before in
+    let op = t .before .before .before .operation .ensures in
+    simp (op, rw op at (sym (t .before .is-read .ensures) ∙ t .if1 .left), rw op at (sym (c .before .is-program .ensures) ∙ c .if2 .taken)))
+    (λ c.
+    let t = c .before .before in
+    let op = t .before .before .before .operation .ensures in
+    simp (op, rw op at (sym (t .before .is-read .ensures) ∙ t .if1 .left), rw op at (sym (c .before .is-program .ensures) ∙ c .if2 .left))))

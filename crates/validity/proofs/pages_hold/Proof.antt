@@ -5,7 +5,6 @@ use mathlib.Core.Bool.{Bool, true, _&&_}
 use mathlib.Core.List.{List}
 use native.Mathlib.Omega.{arith}
 use borrow.Author.Needs.{needs}
-use lib.ListN.{getD}
 use Rattle.model.specs.Valid.{all, pageFits}
 use Rattle.model.proofs.Valid.{Tested, tested-none, tested-more, tested-all}
 use Rattle.registers.specs.Registers.{listed, every, settingEncoded, settingAt, infoOf}

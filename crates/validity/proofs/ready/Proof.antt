@@ -1,5 +1,4 @@
 -- `validity::ready` meets its contract. Assumes nothing.
-use mathlib.Core.Path.{_≡_, refl}
 use Rattle.validity.proofs.Taken.{ready-same}
 use Rattle.validity.proofs.ready.Statement.{statement}
 use Rattle.validity.proofs.ready.Tie as tie

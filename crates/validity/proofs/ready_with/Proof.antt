@@ -1,5 +1,4 @@
 -- `validity::ready_with` meets its contract. Assumes nothing.
-use mathlib.Core.Path.{_≡_, refl}
 use Rattle.model.proofs.Moving.{with-valid}
 use Rattle.validity.proofs.Taken.{ready-same}
 use Rattle.validity.proofs.ready_with.Statement.{statement}

@@ -1,11 +1,11 @@
 -- `whole::run` meets its contract. Assumes nothing.
 use mathlib.Core.Path.{_≡_, sym, _∙_}
-use mathlib.Core.Bool.{true, false}
+use mathlib.Core.Bool.{true}
 use borrow.Author.Tests.{not-true, not-false}
 use borrow.Author.Needs.{needs}
 use Rattle.model.specs.State.{flash}
 use Rattle.model.specs.Refusals.{accepts}
-use Rattle.model.specs.Whole.{wholeAnswer, shortBuffer}
+use Rattle.model.specs.Whole.{wholeAnswer}
 use Rattle.registers.specs.Registers.{decode, standsFor}
 use Rattle.whole.proofs.Completed.{run-refused, run-short, admitted, run-answered}
 use Rattle.whole.proofs.run.Statement.{statement}

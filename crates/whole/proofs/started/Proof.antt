@@ -1,5 +1,5 @@
 -- `whole::started` meets its contract. Assumes nothing.
-use mathlib.Core.Path.{_≡_, sym, _∙_}
+use mathlib.Core.Path.{sym, _∙_}
 use borrow.Author.Needs.{needs}
 use Rattle.model.specs.State.{flash}
 use Rattle.registers.specs.Registers.{standsFor}

@@ -1,5 +1,5 @@
 -- `whole::whole_answer` meets its contract. Assumes nothing.
-use mathlib.Core.Path.{_≡_, sym, _∙_}
+use mathlib.Core.Path.{sym, _∙_}
 use borrow.Author.Tests.{not-true, not-false}
 use Rattle.whole.proofs.Completed.{unready, ready}
 use Rattle.whole.proofs.whole_answer.Statement.{statement}
