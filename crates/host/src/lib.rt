@@ -109,7 +109,8 @@ pub fn view<'a>(s: &Registers, image: &'a [u32], p: Page, refusal: &mut u8) -> &
 {
     let answer = view_answer(s, image, p);
     let accepted = refusals::accepts(answer);
-    *refusal = refusals::number_of(answer);
+    let number = refusals::number_of(answer);
+    *refusal = number;
     if accepted {
         let start = page_start(s, p) as usize;
         let end = start + WIDE_PAGE_WORDS;

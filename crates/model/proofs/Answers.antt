@@ -10,7 +10,7 @@ use Rattle.model.specs.Refusals.{numberOf, accepts, isDenied, check, orE
 use Rattle.model.specs.Checks.{malformed, outOfRange, crossesWindow, operationAnswer}
 use Rattle.model.specs.Errors.{isRecorded}
 use Rattle.model.specs.declared.Answer.{Answer}
-use Rattle.model.specs.declared.Answer.the-variants.{Accepted, Invalid, Busy, Malformed, OutOfRange, CrossesWindow, Denied}
+use Rattle.model.specs.declared.Answer.the-variants.{Accepted, Invalid, Disabled, Uninitialised, Busy, Malformed, OutOfRange, CrossesWindow, Denied}
 use Rattle.model.specs.declared.Phase.{Phase}
 use Rattle.model.specs.declared.Phase.the-variants as phase
 use Rattle.model.specs.declared.Operation.{Operation}
@@ -30,6 +30,16 @@ both-accept a b h =
 pub check-passed : (t : Bool) (a : Answer) → accepts a ≡ false → accepts (check t a) ≡ true → t ≡ false
 check-passed true a n h = absurd (true≢false (sym h ∙ n))
 check-passed false a n h = refl
+
+-- Checks 1, 2 and 3 come in this order.
+pub first-invalid : (p : Phase) → readyAnswer false p ≡ Invalid
+first-invalid p = refl
+
+pub then-disabled : readyAnswer true phase.Disabled ≡ Disabled
+then-disabled = refl
+
+pub then-uninitialised : readyAnswer true phase.Uninitialised ≡ Uninitialised
+then-uninitialised = refl
 
 -- Checks 1, 2 and 3 pass: the controller is ready.
 pub ready-passed : (v : Bool) (p : Phase) → accepts (readyAnswer v p) ≡ true → isReady p ≡ true

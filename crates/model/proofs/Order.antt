@@ -1,6 +1,6 @@
 -- The order of refusals; that of a push, 12 before 11, is in `Accepting`. Assumes nothing.
 use Prim.Native.Nat.{ℕ, _≤_}
-use mathlib.Core.Path.{_≡_, refl}
+use mathlib.Core.Path.{_≡_}
 use mathlib.Core.Bool.{Bool, true, false, _||_, not, and-false}
 use mathlib.Core.List.{List}
 use lib.Dec.{ltb, leb}
@@ -25,25 +25,15 @@ use Rattle.model.specs.declared.ByteAddress.{ByteAddress}
 use Rattle.model.specs.declared.Operation.{Operation}
 use Rattle.model.specs.declared.Setup.{Setup}
 use Rattle.model.specs.declared.Controller.{Controller}
-use Rattle.model.specs.declared.Phase.{Phase}
 use Rattle.model.specs.declared.Phase.the-variants as phase
 use Rattle.model.specs.declared.Work.{Work}
 use Rattle.model.specs.declared.Progress.the-variants.{Idle, Running}
 use Rattle.model.specs.declared.Answer.{Answer}
-use Rattle.model.specs.declared.Answer.the-variants.{Accepted, Invalid, Disabled, Uninitialised, Busy, Malformed, ShortBuffer, OutOfRange, CrossesWindow, Denied, Unexpected, BadSetting}
+use Rattle.model.specs.declared.Answer.the-variants.{Accepted, Invalid, Disabled, Busy, Malformed, ShortBuffer, OutOfRange, CrossesWindow, Denied, Unexpected, BadSetting}
 use Rattle.model.proofs.Bool.{and-left, and-right}
 use Rattle.model.proofs.Valid.{valid-parts}
 
--- ---- 1, 2 and 3 come first, in this order
-
-pub first-invalid : (p : Phase) → readyAnswer false p ≡ Invalid
-first-invalid p = refl
-
-pub then-disabled : readyAnswer true phase.Disabled ≡ Disabled
-then-disabled = refl
-
-pub then-uninitialised : readyAnswer true phase.Uninitialised ≡ Uninitialised
-then-uninitialised = refl
+-- ---- 1, 2 and 3 come first (`first-invalid` .. in `Answers`)
 
 -- Whichever of them applies answers every call that needs a ready controller.
 pub flash-calls : (c : Controller) (f : Flash) (a : Answer) → readyAnswer (validWith c f) (c .phase) ≡ a → accepts a ≡ false
@@ -116,6 +106,12 @@ pub rma-busy : (c : Controller) (f : Flash) (w : Work) → validWith c f ≡ tru
 unfolding rma rmaAnswer
 rma-busy c f w h p r = rw (h, p, r)
 
+-- Settings are allowed in every phase: with nothing in progress only 13 refuses one.
+pub settings-any-phase : (c : Controller) (fits : Bool) → valid c ≡ true → c .progress ≡ Idle
+    → settingAnswer c fits ≡ check (not fits) BadSetting
+settings-any-phase c fits h e = rw (h, e)
+
+-- With an operation in progress, 4 comes before 13.
 pub settings-busy : (c : Controller) (w : Work) → valid c ≡ true → c .progress ≡ Running w → SettingsRefuse c Busy
 unfolding setInputs configured setRegion setDefault setInfo setErase
 settings-busy c w h r = record {
@@ -165,11 +161,6 @@ module _ (c : Controller) (o : Operation) where
   short-before-range f b g h u l = rw (g, h, u, l)
 
 -- ---- what no check looks at
-
--- Settings are allowed in every phase: with nothing in progress only 13 refuses one.
-pub settings-any-phase : (c : Controller) (fits : Bool) → valid c ≡ true → c .progress ≡ Idle
-    → settingAnswer c fits ≡ check (not fits) BadSetting
-settings-any-phase c fits h e = rw (h, e)
 
 -- A host read and a view are allowed whatever is in progress.
 pub host-any-progress : (c : Controller) (f : Flash) (a : ByteAddress) → validWith c f ≡ true → c .phase ≡ phase.Ready

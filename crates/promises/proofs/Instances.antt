@@ -25,9 +25,9 @@ use Rattle.promises.specs.Confined.{protected, erasable, programmable, u
 use Rattle.promises.specs.Counted.{wordsLeft}
 use Rattle.promises.specs.Unknown.{stateOf}
 
--- After reset; the image's first word is 0, the others are ones.
+-- After reset; the first words of pages 0 and 1 are 0, all others are ones.
 abbrev afterReset : State
-afterReset = stateOf (resetController 10) (flash (0 ∷ replicate 11775 allOnes))
+afterReset = stateOf (resetController 10) (flash (0 ∷ replicate 255 allOnes ++ (0 ∷ replicate 11519 allOnes)))
 
 -- All rights on page 0 alone, and initialised;
 abbrev opening : List Call
@@ -57,23 +57,25 @@ pub record Met : Type 0 where
   pub begins-valid : valid (afterReset .controller) ≡ true
   -- `Confined`: page 1 is protected along calls that erase a word of page 0
   pub guarded : protectedAlong (record { 0 = 1 }) afterReset (calls erase ++ (Step ∷ [])) ≡ true
-  -- `NoneRises`, `NoneFalls`: along the same calls page 1 is neither erased nor programmed, and its first bit is 1
+  -- `NoneRises`, `NoneFalls`: along the same calls page 1 is neither erased nor programmed; it has a bit that is 0 and one that
+  -- is 1
   pub unerased : unerasedAlong (record { 0 = 1 }) afterReset (calls erase ++ (Step ∷ [])) ≡ true
   pub unprogrammed : unprogrammedAlong (record { 0 = 1 }) afterReset (calls erase ++ (Step ∷ [])) ≡ true
-  pub bit-of-page-1 : bitOf (afterReset .flash) 256 0 ≡ 1
+  pub low-of-page-1 : bitOf (afterReset .flash) (record { 0 = 256 }) 0 ≡ 0
+  pub high-of-page-1 : bitOf (afterReset .flash) (record { 0 = 257 }) 0 ≡ 1
   -- `ExactlyItsWords`: the erase has 256 words left, and the image fits
   pub left : wordsLeft (reached erase .controller) ≡ 256
   pub fits : validWith (reached erase .controller) (reached erase .flash) ≡ true
   -- `RisesByErase`: its first step makes a 0 bit 1
-  pub low : bitOf (reached erase .flash) 0 0 ≡ 0
-  pub high : bitOf (run afterReset (calls erase ++ (Step ∷ [])) .flash) 0 0 ≡ 1
+  pub low : bitOf (reached erase .flash) (record { 0 = 0 }) 0 ≡ 0
+  pub high : bitOf (run afterReset (calls erase ++ (Step ∷ [])) .flash) (record { 0 = 0 }) 0 ≡ 1
   -- `RefusedMovesNothing`, `RefusedUnknown`: a second start is refused
   pub refused : perform (reached erase) (Start read) .reply .answer ≡ 4
   -- a pushed word is the one that a step programs
   pub stores : getD (run (reached program) (Push 5 ∷ Step ∷ []) .flash .words) 1 0 ≡ 5
   -- whole operations: the buffer's word is programmed, the 0 bit becomes 1, the denied read puts ones into its one place
   pub whole-stores : getD (run afterReset (opening ++ (Whole program (5 ∷ []) ∷ [])) .flash .words) 1 0 ≡ 5
-  pub whole-high : bitOf (run afterReset (opening ++ (Whole erase [] ∷ [])) .flash) 0 0 ≡ 1
+  pub whole-high : bitOf (run afterReset (opening ++ (Whole erase [] ∷ [])) .flash) (record { 0 = 0 }) 0 ≡ 1
   pub whole-denied : perform (run afterReset opening) (Whole read (5 ∷ 6 ∷ [])) .reply .answer ≡ 9
   pub whole-blank : perform (run afterReset opening) (Whole read (5 ∷ 6 ∷ [])) .reply .buffer ≡ allOnes ∷ 6 ∷ []
   -- `BlankUnknown`: the read of page 1 is in progress, blank
@@ -87,7 +89,8 @@ met = record {
   guarded = refl;
   unerased = refl;
   unprogrammed = refl;
-  bit-of-page-1 = refl;
+  low-of-page-1 = refl;
+  high-of-page-1 = refl;
   left = refl;
   fits = refl;
   low = refl;

@@ -152,12 +152,12 @@ refuted false n y = absurd (true≢false (sym y))
 pub none-rises : NoneRises
 none-rises s [] place bit shaped h guard low = low
 none-rises s (k ∷ ks) place bit shaped h guard low =
-    let may : Bool = erasable (s .controller .setup) (imagePageOf (record { 0 = place })) in
+    let may : Bool = erasable (s .controller .setup) (imagePageOf place) in
     let now : Bool = not may && not (isRma k) in
     let g : now ≡ true = and-left now _ guard in
     let kept = call-keeps s k shaped h in
     none-rises (perform s k .state) ks place bit (kept .0) (kept .1) (and-right now _ guard)
-    (call-keeps-word (λ (w : ℕ). w / 2 ^ bit % 2 ≡ 0) place s h (λ m old w q. programmed-zero old w bit q)
+    (call-keeps-word (λ (w : ℕ). w / 2 ^ bit % 2 ≡ 0) (place .0) s h (λ m old w q. programmed-zero old w bit q)
     (refuted may (and-left (not may) _ g)) (refuted (isRma k) (and-right (not may) _ g)) (flash-touched s k) low)
 
 -- The low n bits of a word of ones are 1.
@@ -181,8 +181,8 @@ one-bit bit m = low-one 32 bit refl m
 pub none-falls : NoneFalls
 none-falls s [] place bit shaped h guard m high = high
 none-falls s (k ∷ ks) place bit shaped h guard m high =
-    let may : Bool = programmable (s .controller .setup) (imagePageOf (record { 0 = place })) in
+    let may : Bool = programmable (s .controller .setup) (imagePageOf place) in
     let kept = call-keeps s k shaped h in
     none-falls (perform s k .state) ks place bit (kept .0) (kept .1) (and-right (not may) _ guard) m
-    (call-keeps-word (λ (w : ℕ). w / 2 ^ bit % 2 ≡ 1) place s h (λ y. refuted may (and-left (not may) _ guard) y)
+    (call-keeps-word (λ (w : ℕ). w / 2 ^ bit % 2 ≡ 1) (place .0) s h (λ y. refuted may (and-left (not may) _ guard) y)
     (λ y. one-bit bit m) (λ y. one-bit bit m) (flash-touched s k) high)

@@ -22,6 +22,7 @@ use Rattle.model.proofs.Bool.{by-test}
 use Rattle.model.proofs.Words.{programmed-bit}
 use Rattle.model.proofs.Lifecycle.{wiped-other}
 use Rattle.model.proofs.StepLaws.{StepLeaves, same, programs, erases, step-leaves}
+use Rattle.model.specs.declared.BusWord.{BusWord}
 use Rattle.plans.specs.Plan.{programming, erasing}
 use Rattle.plans.proofs.Firsts.{storedFirst}
 use Rattle.plans.proofs.Changes.{WholeChanges, same, programs, erases, whole-changes}
@@ -53,40 +54,40 @@ program-keeps l p new place bit h =
     (λ t. rw (getD-set-other l p place _ 0 (eqb-false _ _ t)) h)
 
 -- A step raises a bit only where it erases,
-step-rises : (c : Controller) (f : Flash) (place bit : ℕ) → StepLeaves c f → bitOf f place bit ≡ 0
+step-rises : (c : Controller) (f : Flash) (place : BusWord) (bit : ℕ) → StepLeaves c f → bitOf f place bit ≡ 0
     → bitOf (step c f .flash) place bit ≡ 1 → stepErases (c .setup .pages) (c .progress) place ≡ true
 step-rises c f place bit (same e) h i = absurd (never h (rw e at i))
 step-rises c f place bit (programs o k r e) h i =
-    absurd (never (program-keeps (f .words) (placeOf (c .setup .pages) o k .0) _ place bit h) (rw e at i))
+    absurd (never (program-keeps (f .words) (placeOf (c .setup .pages) o k .0) _ (place .0) bit h) (rw e at i))
 step-rises c f place bit (erases o k r e) h i =
-    let covers : eqb (placeOf (c .setup .pages) o k .0) place ≡ true =
-    by-test (eqb (placeOf (c .setup .pages) o k .0) place) (λ t. t)
+    let covers : eqb (placeOf (c .setup .pages) o k .0) (place .0) ≡ true =
+    by-test (eqb (placeOf (c .setup .pages) o k .0) (place .0)) (λ t. t)
     (λ t.
-    let ne : place ≡ placeOf (c .setup .pages) o k .0 → ⊥ = λ x. eqb-false _ _ t (sym x) in
+    let ne : place .0 ≡ placeOf (c .setup .pages) o k .0 → ⊥ = λ x. eqb-false _ _ t (sym x) in
     absurd (never h (rw (e, getD-set-other) at i))) in
     rw r covers
 
 -- the programs of a whole operation keep a 0 bit 0,
-programs-keep : (d : ℕ) (o : Operation) (b : List ℕ) (f : Flash) (place bit n : ℕ) → bitOf f place bit ≡ 0
+programs-keep : (d : ℕ) (o : Operation) (b : List ℕ) (f : Flash) (place : BusWord) (bit n : ℕ) → bitOf f place bit ≡ 0
     → bitOf (storedFirst d o (programming b) n f) place bit ≡ 0
 unfolding storedFirst
 programs-keep d o b f place bit zero h = h
 programs-keep d o b f place bit (suc n) h =
-    program-keeps (storedFirst d o (programming b) n f .words) (placeOf d o n .0) _ place bit (programs-keep d o b f place bit n h)
+    program-keeps (storedFirst d o (programming b) n f .words) (placeOf d o n .0) _ (place .0) bit (programs-keep d o b f place bit n h)
 
 -- its erases raise one only where a word of it is,
-erases-rise : (d : ℕ) (o : Operation) (f : Flash) (place bit n : ℕ) → bitOf f place bit ≡ 0
+erases-rise : (d : ℕ) (o : Operation) (f : Flash) (place : BusWord) (bit n : ℕ) → bitOf f place bit ≡ 0
     → bitOf (storedFirst d o erasing n f) place bit ≡ 1 → hasWordAt d o n place ≡ true
 unfolding storedFirst
 erases-rise d o f place bit zero h i = absurd (never h i)
 erases-rise d o f place bit (suc n) h i =
-    by-test (eqb (placeOf d o n .0) place) (λ t. rw t)
+    by-test (eqb (placeOf d o n .0) (place .0)) (λ t. rw t)
     (λ t.
-    let ne : place ≡ placeOf d o n .0 → ⊥ = λ x. eqb-false _ _ t (sym x) in
+    let ne : place .0 ≡ placeOf d o n .0 → ⊥ = λ x. eqb-false _ _ t (sym x) in
     rw t (erases-rise d o f place bit n h (rw getD-set-other at i)))
 
 -- so it raises one only where it erases,
-whole-rises : (c : Controller) (f : Flash) (o : Operation) (b : List ℕ) (place bit : ℕ) → WholeChanges c f o b
+whole-rises : (c : Controller) (f : Flash) (o : Operation) (b : List ℕ) (place : BusWord) (bit : ℕ) → WholeChanges c f o b
     → bitOf f place bit ≡ 0 → bitOf (whole c f o b .flash) place bit ≡ 1 → wholeErases (c .setup .pages) o place ≡ true
 whole-rises c f o b place bit (same e) h i = absurd (never h (rw e at i))
 whole-rises c f o b place bit (programs a p e) h i =
@@ -95,18 +96,18 @@ whole-rises c f o b place bit (erases a p e) h i =
     rw p (erases-rise (c .setup .pages) o f place bit (totalWords (c .setup .pages) o) h (rw e at i))
 
 -- and RMA only where it wipes.
-rma-rises : (c : Controller) (f : Flash) (place bit : ℕ) → bitOf f place bit ≡ 0 → bitOf (rma c f .flash) place bit ≡ 1
-    → isWiped (c .setup .pages) (record { 0 = place }) ≡ true
+rma-rises : (c : Controller) (f : Flash) (place : BusWord) (bit : ℕ) → bitOf f place bit ≡ 0 → bitOf (rma c f .flash) place bit ≡ 1
+    → isWiped (c .setup .pages) place ≡ true
 unfolding rma
 rma-rises c f place bit h i =
-    by-test (isWiped (c .setup .pages) (record { 0 = place })) (λ t. t)
+    by-test (isWiped (c .setup .pages) place) (λ t. t)
     (λ t.
     by-test (accepts (rmaAnswer c f))
-    (λ a. absurd (never h (rw (a, wiped-other (c .setup .pages) 0 (f .words) place (rw (zero-add place) t)) at i)))
+    (λ a. absurd (never h (rw (a, wiped-other (c .setup .pages) 0 (f .words) (place .0) (rw (zero-add (place .0)) t)) at i)))
     (λ a. absurd (never h (rw a at i))))
 
 -- No other call changes the flash.
-call-rises : (s : State) {k : Call} (place bit : ℕ) → Touches s k → bitOf (s .flash) place bit ≡ 0
+call-rises : (s : State) {k : Call} (place : BusWord) (bit : ℕ) → Touches s k → bitOf (s .flash) place bit ≡ 0
     → bitOf (perform s k .state .flash) place bit ≡ 1 → erasesPlace (s .controller) k place ≡ true
 unfolding perform
 call-rises s place bit (same e) h i = absurd (never h (rw e at i))

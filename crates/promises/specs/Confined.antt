@@ -9,7 +9,7 @@ use lib.ListN.{getD}
 use Rattle.model.specs.Geometry.{bankOfPage, imagePageOf}
 use Rattle.model.specs.Kinds.{isPageErase, isBankErase, programRight, eraseRight}
 use Rattle.model.specs.Places.{totalWords, placeOf}
-use Rattle.model.specs.State.{Flash}
+use Rattle.model.specs.State.{Flash, stored}
 pub use Rattle.model.specs.State.{wordsOf}
 use Rattle.model.specs.Rights.{grants, rightsOfPage}
 use Rattle.model.specs.Lifecycle.{isWiped}
@@ -21,6 +21,7 @@ use Rattle.model.specs.declared.Progress.{Progress}
 use Rattle.model.specs.declared.Progress.the-variants.{Idle, Running}
 use Rattle.model.specs.declared.Setup.{Setup}
 use Rattle.model.specs.declared.Controller.{Controller}
+use Rattle.model.specs.declared.BusWord.{BusWord}
 use Rattle.promises.specs.Calls.{Call, State, Shaped, Reset, SetInputs, SetRegion, SetDefault, SetInfo, SetErase, Initialise, Start, Step, Push, Pop, Whole, HostRead, ViewPage, Clear, Rma, perform, run}
 
 -- ---- a protected page
@@ -64,26 +65,26 @@ Confined =
 
 -- ---- a 0 bit becomes 1 only by an erase or RMA that covers it
 
-abbrev pub bitOf : Flash → ℕ → ℕ → ℕ
-bitOf f place bit = getD (f .words) place 0 / 2 ^ bit % 2
+abbrev pub bitOf : Flash → BusWord → ℕ → ℕ
+bitOf f place bit = stored f place / 2 ^ bit % 2
 
 -- The next step of what is in progress erases the place.
-abbrev pub stepErases : ℕ → Progress → ℕ → Bool
+abbrev pub stepErases : ℕ → Progress → BusWord → Bool
 stepErases d Idle place = false
 stepErases d (Running (Read o k readable)) place = false
 stepErases d (Running (Program o k)) place = false
-stepErases d (Running (Erase o k)) place = eqb (placeOf d o k .0) place
+stepErases d (Running (Erase o k)) place = eqb (placeOf d o k .0) (place .0)
 
 -- One of the first n words of an operation is at the place.
-abbrev pub hasWordAt : ℕ → Operation → ℕ → ℕ → Bool
+abbrev pub hasWordAt : ℕ → Operation → ℕ → BusWord → Bool
 hasWordAt d o zero place = false
-hasWordAt d o (suc n) place = eqb (placeOf d o n .0) place || hasWordAt d o n place
+hasWordAt d o (suc n) place = eqb (placeOf d o n .0) (place .0) || hasWordAt d o n place
 
 -- A whole erase erases the places of all its words.
-abbrev pub wholeErases : ℕ → Operation → ℕ → Bool
+abbrev pub wholeErases : ℕ → Operation → BusWord → Bool
 wholeErases d o place = (isPageErase o || isBankErase o) && hasWordAt d o (totalWords d o) place
 
-abbrev pub erasesPlace : Controller → Call → ℕ → Bool
+abbrev pub erasesPlace : Controller → Call → BusWord → Bool
 erasesPlace c (Reset d) place = false
 erasesPlace c (SetInputs i) place = false
 erasesPlace c (SetRegion n g) place = false
@@ -99,11 +100,11 @@ erasesPlace c (Whole o b) place = wholeErases (c .setup .pages) o place
 erasesPlace c (HostRead a) place = false
 erasesPlace c (ViewPage p) place = false
 erasesPlace c Clear place = false
-erasesPlace c Rma place = isWiped (c .setup .pages) (record { 0 = place })
+erasesPlace c Rma place = isWiped (c .setup .pages) place
 
 abbrev pub RisesByErase : Type 0
 RisesByErase =
-    (s : State) (k : Call) (place bit : ℕ) → bitOf (s .flash) place bit ≡ 0 → bitOf (perform s k .state .flash) place bit ≡ 1
+    (s : State) (k : Call) (place : BusWord) (bit : ℕ) → bitOf (s .flash) place bit ≡ 0 → bitOf (perform s k .state .flash) place bit ≡ 1
     → erasesPlace (s .controller) k place ≡ true
 
 -- ---- a page with one of the two rights: its bits go one way only
@@ -122,8 +123,8 @@ unerasedAlong q s (k ∷ ks) = (not (erasable (s .controller .setup) q) && not (
 
 abbrev pub NoneRises : Type 0
 NoneRises =
-    (s : State) (ks : List Call) (place bit : ℕ) → Shaped (s .controller) → valid (s .controller) ≡ true
-    → unerasedAlong (imagePageOf (record { 0 = place })) s ks ≡ true → bitOf (s .flash) place bit ≡ 0
+    (s : State) (ks : List Call) (place : BusWord) (bit : ℕ) → Shaped (s .controller) → valid (s .controller) ≡ true
+    → unerasedAlong (imagePageOf place) s ks ≡ true → bitOf (s .flash) place bit ≡ 0
     → bitOf (run s ks .flash) place bit ≡ 0
 
 -- The page may not be programmed at any call of the list: no bit of its 32-bit words falls, even by RMA.
@@ -133,6 +134,6 @@ unprogrammedAlong q s (k ∷ ks) = not (programmable (s .controller .setup) q) &
 
 abbrev pub NoneFalls : Type 0
 NoneFalls =
-    (s : State) (ks : List Call) (place bit : ℕ) → Shaped (s .controller) → valid (s .controller) ≡ true
-    → unprogrammedAlong (imagePageOf (record { 0 = place })) s ks ≡ true → bit < 32 → bitOf (s .flash) place bit ≡ 1
+    (s : State) (ks : List Call) (place : BusWord) (bit : ℕ) → Shaped (s .controller) → valid (s .controller) ≡ true
+    → unprogrammedAlong (imagePageOf place) s ks ≡ true → bit < 32 → bitOf (s .flash) place bit ≡ 1
     → bitOf (run s ks .flash) place bit ≡ 1

@@ -117,8 +117,8 @@ fn advance_erase(s: &mut Registers, image: &mut [u32], op: Operation, k: u32) ->
     let d = registers::pages(s);
     let n = places::total_words(d, op);
     let place = places::place_of(d, op, k);
-    let bits = words::erase_word(image, place);
-    moved(s, n, k, bits)
+    let changed = words::erase_word(image, place);
+    moved(s, n, k, changed)
 }
 
 // One word moves, at the operation's next place.

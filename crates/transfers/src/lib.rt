@@ -21,7 +21,8 @@ pub fn read(d: u32, image: &[u32], o: Operation, buffer: &mut [u32])
     let words = places::total_words(d, o);
     for k in 0..words {
         let place = places::place_of(d, o, k as u32);
-        buffer[k] = image[place.0 as usize];
+        let word = image[place.0 as usize];
+        buffer[k] = word;
     }
 }
 
@@ -46,7 +47,8 @@ pub fn program(s: &Registers, image: &mut [u32], o: Operation, buffer: &[u32]) -
     let mut bits: u32 = 0;
     for k in 0..given {
         let place = places::place_of(d, o, k as u32);
-        bits += words::program_word(image, place, buffer[k]);
+        let word = buffer[k];
+        bits += words::program_word(image, place, word);
     }
     bits
 }
@@ -62,7 +64,8 @@ pub fn erase(s: &Registers, image: &mut [u32], o: Operation) -> u32
     let mut bits: u32 = 0;
     for k in 0..total {
         let place = places::place_of(d, o, k as u32);
-        bits += words::erase_word(image, place);
+        let changed = words::erase_word(image, place);
+        bits += changed;
     }
     bits
 }

@@ -17,8 +17,8 @@ Inv-loop d image o buffer₀ n k₀ buffer k =
 abbrev μ-loop : tie.MeasureT-loop
 μ-loop d image o buffer₀ n k₀ buffer k = n - k
 
-shared-slice-read-buffer : tie.Need-shared-slice-read-buffer Inv-loop μ-loop
-shared-slice-read-buffer c =
+shared-slice-read-word : tie.Need-shared-slice-read-word Inv-loop μ-loop
+shared-slice-read-word c =
     let s = c .before .before .before .before in
     in-image (s .before .before .before .before .pre .0) (s .loop .k) (omega arith) _ (c .before .before .place-of .ensures)
 
@@ -40,7 +40,7 @@ read-spec =
     (λ c κs. let p = c .before .before .before .before .before .pre .0 in (p .pages .0, p .pages .1, p .ranged, omega arith))
     (λ c. omega arith)
     (λ c. omega arith)
-    shared-slice-read-buffer
+    shared-slice-read-word
     (λ c. omega arith)
     (λ c. omega arith)
     (λ c. omega arith)
