@@ -109,7 +109,8 @@ rma-busy c f w h p r = rw (h, p, r)
 -- Settings are allowed in every phase: with nothing in progress only 13 refuses one.
 pub settings-any-phase : (c : Controller) (fits : Bool) → valid c ≡ true → c .progress ≡ Idle
     → settingAnswer c fits ≡ check (not fits) BadSetting
-settings-any-phase c fits h e = rw (h, e)
+settings-any-phase c true h e = simp (h, e)
+settings-any-phase c false h e = simp (h, e)
 
 -- With an operation in progress, 4 comes before 13.
 pub settings-busy : (c : Controller) (w : Work) → valid c ≡ true → c .progress ≡ Running w → SettingsRefuse c Busy
