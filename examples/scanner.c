@@ -201,7 +201,7 @@ static void erase_foreign_page(void) {
 
 static void print_error_record(void) {
     require(controller.recorded == LURGABEL_RECORDED(LURGABEL_DENIED), "another error is recorded");
-    printf("  recorded: %s, last address 0x%04" PRIX32 "\n", lurgabel_answer_text(LURGABEL_DENIED),
+    printf("  recorded: %s, last address 0x%04" PRIX32 "\n", lurgabel_recorded_text(controller.recorded),
            controller.last_address);
 }
 

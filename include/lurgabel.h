@@ -24,8 +24,25 @@ extern "C" {
 #endif
 
 /* Raised whenever lurgabel_controller or a function of the library changes. The library's names carry it, so that a
- * library that does not fit this header does not link. */
+ * library that does not fit this header does not link: the linker misses 'lurgabel_layout2_reset' and the others. */
 #define LURGABEL_LAYOUT 2
+
+/* Before each call below. An answer that nobody looks at is a refusal that nobody sees, so the compiler warns of it.
+ * Where an answer does not matter, lurgabel_drop(lurgabel_pop(&c, NULL)) says so; gcc does not take (void) for it. */
+#if (defined(__cplusplus) && __cplusplus >= 201703L) || (defined(__STDC_VERSION__) && __STDC_VERSION__ >= 202311L)
+#define LURGABEL_CALL [[nodiscard]] static inline
+#elif defined(__GNUC__)
+#define LURGABEL_CALL __attribute__((warn_unused_result)) static inline
+#else
+#define LURGABEL_CALL static inline
+#endif
+
+/* A cast that no C++ compiler warns of. */
+#ifdef __cplusplus
+#define LURGABEL_AS(type, value) static_cast<type>(value)
+#else
+#define LURGABEL_AS(type, value) ((type)(value))
+#endif
 
 /* ---- geometry ------------------------------------------------------------------------------------------------- */
 
@@ -41,13 +58,30 @@ extern "C" {
 #define LURGABEL_MAX_COUNT 1024u      /* largest count of a read or a program */
 #define LURGABEL_ERASED 0xFFFFFFFFu   /* an erased bus word */
 
-/* The length of an image with D data pages in each bank: bank 0's data pages, its information pages of type 0, 1 and
- * 2, then bank 1 alike. */
+/* In the macros below D is the number of data pages in each bank. Each works in a constant expression; an argument may
+ * be evaluated more than once, and is best unsigned. They check nothing. */
+
+/* The length of an image: bank 0's data pages, its information pages of type 0, 1 and 2, then bank 1 alike.
+ * uint32_t image[LURGABEL_IMAGE_WORDS(16)]; */
 #define LURGABEL_IMAGE_WORDS(D) (2u * ((D) + LURGABEL_INFO_PAGES) * LURGABEL_PAGE_WORDS)
 
-/* The byte address of an offset in a page of a bank, and the place of an information page in info_pages. */
+/* The byte address of an offset in a page of a bank. A data page is 0 to D - 1 there, an information page is counted in
+ * its type. The last word of bank 0: LURGABEL_ADDRESS(16, 0u, 15u, 1020u) is 0x3FFC. */
 #define LURGABEL_ADDRESS(D, bank, page, offset) (((bank) * (D) + (page)) * LURGABEL_PAGE_BYTES + (offset))
-#define LURGABEL_INFO_INDEX(bank, type, page) ((bank) * LURGABEL_INFO_PAGES + ((type) ? (type) + 9u : 0u) + (page))
+
+/* The place of an information page in info_pages: LURGABEL_INFO_INDEX(1u, 2u, 0u) is 24. */
+#define LURGABEL_INFO_INDEX(bank, type, page) ((bank) * LURGABEL_INFO_PAGES + LURGABEL_TYPE_START(type) + (page))
+#define LURGABEL_TYPE_START(type) ((type) ? (type) + 9u : 0u) /* the first page of a type among a bank's 13 */
+
+/* The image is not in the order of addresses: bank 0's information pages lie between the data pages of the two banks.
+ * These give the place in the image of the word at a byte address below 2D x 1,024, of the data pages and of the
+ * information pages of a type.
+ * The first word of bank 1: image[LURGABEL_IMAGE_WORD(16, 0x4000u)] is image[7424].
+ * The creator's seed: image[LURGABEL_IMAGE_INFO_WORD(16, 0u, 0x400u)] is image[4352]. */
+#define LURGABEL_IMAGE_WORD(D, address) \
+    ((address) / 4u + (address) / ((D) * LURGABEL_PAGE_BYTES) * (LURGABEL_INFO_PAGES * LURGABEL_PAGE_WORDS))
+#define LURGABEL_IMAGE_INFO_WORD(D, type, address) \
+    (LURGABEL_IMAGE_WORD(D, address) + ((D) + LURGABEL_TYPE_START(type)) * LURGABEL_PAGE_WORDS)
 
 /* Special information pages, all of bank 0, type 0. */
 #define LURGABEL_CREATOR_SEED_PAGE 1u
@@ -121,8 +155,8 @@ static inline const char *lurgabel_answer_text(lurgabel_answer answer) {
     case LURGABEL_QUEUE_FULL: return "program queue is full";
     case LURGABEL_UNEXPECTED: return "nothing in progress that takes this call";
     case LURGABEL_BAD_SETTING: return "no such setting, or a value out of range";
+    default: return "no such answer";
     }
-    return "no such answer";
 }
 
 /* What a step did. */
@@ -132,6 +166,16 @@ typedef enum lurgabel_movement {
     LURGABEL_FINISHED = 2,  /* the last word moved */
     LURGABEL_STALLED = 3    /* nothing yet: a read waits for room in its queue, a program for a word */
 } lurgabel_movement;
+
+static inline const char *lurgabel_movement_text(lurgabel_movement movement) {
+    switch (movement) {
+    case LURGABEL_NONE: return "nothing moved";
+    case LURGABEL_MOVED: return "a word moved";
+    case LURGABEL_FINISHED: return "the last word moved";
+    case LURGABEL_STALLED: return "waits for the caller";
+    default: return "no such movement";
+    }
+}
 
 /* ---- the controller's state ----------------------------------------------------------------------------------- */
 
@@ -153,7 +197,8 @@ typedef struct lurgabel_page_setting {
 } lurgabel_page_setting;
 
 /* The words that a queue holds are the first `length` of `words`, oldest first. No rule looks at the places after
- * them. A call that changes the queue leaves zeros there, as does a whole read or program in the queue that it uses. */
+ * them. A call that changes the queue leaves zeros there, as does a whole read or program in the queue that it uses,
+ * and RMA leaves zeros in both queues. */
 typedef struct lurgabel_queue {
     uint32_t words[16];
     uint32_t length;  /* 0 to 16 */
@@ -175,6 +220,30 @@ typedef struct lurgabel_progress {
 
 /* The bit of a recorded kind in `recorded`: of LURGABEL_MALFORMED, _OUT_OF_RANGE, _CROSSES_WINDOW or _DENIED. */
 #define LURGABEL_RECORDED(answer) (1u << (answer))
+
+/* The kinds in `recorded` by name, all of them in one text, for a log:
+ * printf("recorded: %s; last address 0x%08lX\n", lurgabel_recorded_text(c.recorded), (unsigned long)c.last_address); */
+static inline const char *lurgabel_recorded_text(uint32_t recorded) {
+    switch (recorded) {
+    case 0x000: return "nothing";
+    case 0x020: return "malformed";
+    case 0x080: return "outside the pages";
+    case 0x0A0: return "malformed, outside the pages";
+    case 0x100: return "crosses a window";
+    case 0x120: return "malformed, crosses a window";
+    case 0x180: return "outside the pages, crosses a window";
+    case 0x1A0: return "malformed, outside the pages, crosses a window";
+    case 0x200: return "access denied";
+    case 0x220: return "malformed, access denied";
+    case 0x280: return "outside the pages, access denied";
+    case 0x2A0: return "malformed, outside the pages, access denied";
+    case 0x300: return "crosses a window, access denied";
+    case 0x320: return "malformed, crosses a window, access denied";
+    case 0x380: return "outside the pages, crosses a window, access denied";
+    case 0x3A0: return "malformed, outside the pages, crosses a window, access denied";
+    default: return "no such record";
+    }
+}
 
 /* The whole state, as plain data that a bench may read, copy, compare and write. Whatever stands in it, every call
  * answers; what encodes no state of the controller (a flag of 7, a phase of 9, rights of 256, another bit in
@@ -281,125 +350,131 @@ uint32_t lurgabel_layout2_rma(lurgabel_controller *c, uint32_t *image, size_t im
 
 /* Each changes *c as its rule says and returns the answer. A pointer that a value goes to may be NULL. The controller,
  * an image and a buffer are lent for the time of the call, and none of them may overlap another. An image and a buffer
- * have as many words as their length says; with a length of 0 they may be NULL. */
+ * have as many words as their length says; with a length of 0 they may be NULL. A length that is not the memory's, as
+ * any other length with NULL, is the caller's error and undefined, as everywhere in C: no answer tells of it. */
 
 /* Resets any controller, whatever stands in it (a new variable is best set to zeros), to D data pages in each bank:
  * every setting and input off or 0. It touches no image. Checks D alone. */
-static inline lurgabel_answer lurgabel_reset(lurgabel_controller *c, uint32_t data_pages) {
-    return (lurgabel_answer)lurgabel_layout2_reset(c, data_pages);
+LURGABEL_CALL lurgabel_answer lurgabel_reset(lurgabel_controller *c, uint32_t data_pages) {
+    return LURGABEL_AS(lurgabel_answer, lurgabel_layout2_reset(c, data_pages));
 }
 
 /* Inputs and settings: refused while an operation is in progress, allowed when disabled. */
-static inline lurgabel_answer lurgabel_set_inputs(lurgabel_controller *c, bool provision_enabled, bool seeds_locked) {
-    return (lurgabel_answer)lurgabel_layout2_set_inputs(c, provision_enabled, seeds_locked);
+LURGABEL_CALL lurgabel_answer lurgabel_set_inputs(lurgabel_controller *c, bool provision_enabled, bool seeds_locked) {
+    return LURGABEL_AS(lurgabel_answer, lurgabel_layout2_set_inputs(c, provision_enabled, seeds_locked));
 }
 
 /* Region 0 to 7. Any `on` but 0 switches it on. */
-static inline lurgabel_answer lurgabel_set_region(lurgabel_controller *c, uint32_t number, lurgabel_region region) {
-    return (lurgabel_answer)lurgabel_layout2_set_region(c, number, region);
+LURGABEL_CALL lurgabel_answer lurgabel_set_region(lurgabel_controller *c, uint32_t number, lurgabel_region region) {
+    return LURGABEL_AS(lurgabel_answer, lurgabel_layout2_set_region(c, number, region));
 }
 
-static inline lurgabel_answer lurgabel_set_default_rights(lurgabel_controller *c, uint32_t rights) {
-    return (lurgabel_answer)lurgabel_layout2_set_default_rights(c, rights);
+LURGABEL_CALL lurgabel_answer lurgabel_set_default_rights(lurgabel_controller *c, uint32_t rights) {
+    return LURGABEL_AS(lurgabel_answer, lurgabel_layout2_set_default_rights(c, rights));
 }
 
 /* An information page, by its bank, its type and its number in the type. Any `on` but 0 switches it on. */
-static inline lurgabel_answer lurgabel_set_info_page(lurgabel_controller *c, uint32_t bank, uint32_t info_type,
+LURGABEL_CALL lurgabel_answer lurgabel_set_info_page(lurgabel_controller *c, uint32_t bank, uint32_t info_type,
                                                      uint32_t page, lurgabel_page_setting setting) {
-    return (lurgabel_answer)lurgabel_layout2_set_info_page(c, bank, info_type, page, setting);
+    return LURGABEL_AS(lurgabel_answer, lurgabel_layout2_set_info_page(c, bank, info_type, page, setting));
 }
 
-static inline lurgabel_answer lurgabel_set_bank_erase(lurgabel_controller *c, uint32_t bank, bool on) {
-    return (lurgabel_answer)lurgabel_layout2_set_bank_erase(c, bank, on);
+LURGABEL_CALL lurgabel_answer lurgabel_set_bank_erase(lurgabel_controller *c, uint32_t bank, bool on) {
+    return LURGABEL_AS(lurgabel_answer, lurgabel_layout2_set_bank_erase(c, bank, on));
 }
 
 /* Clears the recorded kinds and the last address. */
-static inline lurgabel_answer lurgabel_clear_errors(lurgabel_controller *c) {
-    return (lurgabel_answer)lurgabel_layout2_clear_errors(c);
+LURGABEL_CALL lurgabel_answer lurgabel_clear_errors(lurgabel_controller *c) {
+    return LURGABEL_AS(lurgabel_answer, lurgabel_layout2_clear_errors(c));
 }
 
 /* Makes a controller that was reset ready. With provision enabled the seeds are handed out. */
-static inline lurgabel_answer lurgabel_initialise(lurgabel_controller *c, const uint32_t *image, size_t image_words,
+LURGABEL_CALL lurgabel_answer lurgabel_initialise(lurgabel_controller *c, const uint32_t *image, size_t image_words,
                                                   lurgabel_seeds *seeds) {
     lurgabel_initialised r = lurgabel_layout2_initialise(c, image, image_words);
     if (seeds != NULL) {
         *seeds = r.seeds;
     }
-    return (lurgabel_answer)r.answer;
+    return LURGABEL_AS(lurgabel_answer, r.answer);
 }
 
 /* Starts an operation, which steps then carry out. */
-static inline lurgabel_answer lurgabel_start(lurgabel_controller *c, lurgabel_operation operation) {
-    return (lurgabel_answer)lurgabel_layout2_start(c, operation);
+LURGABEL_CALL lurgabel_answer lurgabel_start(lurgabel_controller *c, lurgabel_operation operation) {
+    return LURGABEL_AS(lurgabel_answer, lurgabel_layout2_start(c, operation));
 }
 
 /* Moves one word of the operation in progress; `bits` is how many bits it changed in the flash. */
-static inline lurgabel_answer lurgabel_step(lurgabel_controller *c, uint32_t *image, size_t image_words,
+LURGABEL_CALL lurgabel_answer lurgabel_step(lurgabel_controller *c, uint32_t *image, size_t image_words,
                                             lurgabel_movement *movement, uint32_t *bits) {
     lurgabel_stepped r = lurgabel_layout2_step(c, image, image_words);
     if (movement != NULL) {
-        *movement = (lurgabel_movement)r.movement;
+        *movement = LURGABEL_AS(lurgabel_movement, r.movement);
     }
     if (bits != NULL) {
         *bits = r.bits;
     }
-    return (lurgabel_answer)r.answer;
+    return LURGABEL_AS(lurgabel_answer, r.answer);
 }
 
 /* Gives a program in progress its next word. */
-static inline lurgabel_answer lurgabel_push(lurgabel_controller *c, uint32_t word) {
-    return (lurgabel_answer)lurgabel_layout2_push(c, word);
+LURGABEL_CALL lurgabel_answer lurgabel_push(lurgabel_controller *c, uint32_t word) {
+    return LURGABEL_AS(lurgabel_answer, lurgabel_layout2_push(c, word));
 }
 
 /* Takes the oldest word that a read has delivered. */
-static inline lurgabel_answer lurgabel_pop(lurgabel_controller *c, uint32_t *word) {
+LURGABEL_CALL lurgabel_answer lurgabel_pop(lurgabel_controller *c, uint32_t *word) {
     lurgabel_fetched r = lurgabel_layout2_pop(c);
     if (word != NULL) {
         *word = r.word;
     }
-    return (lurgabel_answer)r.answer;
+    return LURGABEL_AS(lurgabel_answer, r.answer);
 }
 
 /* Runs a whole operation: start, steps, pushes and pops until it is finished and drained. A program takes its words
  * from the first `count` places of the buffer, a read puts its words there; an erase leaves the buffer alone. A denied
  * read answers LURGABEL_DENIED and puts ones there. `bits` is the sum over the steps. */
-static inline lurgabel_answer lurgabel_run(lurgabel_controller *c, uint32_t *image, size_t image_words,
+LURGABEL_CALL lurgabel_answer lurgabel_run(lurgabel_controller *c, uint32_t *image, size_t image_words,
                                            lurgabel_operation operation, uint32_t *buffer, size_t buffer_words,
                                            uint32_t *bits) {
     lurgabel_completed r = lurgabel_layout2_run(c, image, image_words, operation, buffer, buffer_words);
     if (bits != NULL) {
         *bits = r.bits;
     }
-    return (lurgabel_answer)r.answer;
+    return LURGABEL_AS(lurgabel_answer, r.answer);
 }
 
 /* Reads one data word past the queues, also during an operation. It leaves *c as it is today; later models may note
  * there what was read. */
-static inline lurgabel_answer lurgabel_host_read(lurgabel_controller *c, const uint32_t *image, size_t image_words,
+LURGABEL_CALL lurgabel_answer lurgabel_host_read(lurgabel_controller *c, const uint32_t *image, size_t image_words,
                                                  uint32_t address, uint32_t *word) {
     lurgabel_fetched r = lurgabel_layout2_host_read(c, image, image_words, address);
     if (word != NULL) {
         *word = r.word;
     }
-    return (lurgabel_answer)r.answer;
+    return LURGABEL_AS(lurgabel_answer, r.answer);
 }
 
 /* The 256 words of a data page (0 to 2D - 1) inside the caller's own image, or NULL if the view is refused. */
-static inline const uint32_t *lurgabel_view(const lurgabel_controller *c, const uint32_t *image, size_t image_words,
+LURGABEL_CALL const uint32_t *lurgabel_view(const lurgabel_controller *c, const uint32_t *image, size_t image_words,
                                             uint32_t page, lurgabel_answer *answer) {
     lurgabel_viewed r = lurgabel_layout2_view(c, image, image_words, page);
     if (answer != NULL) {
-        *answer = (lurgabel_answer)r.answer;
+        *answer = LURGABEL_AS(lurgabel_answer, r.answer);
     }
     return r.answer == LURGABEL_ACCEPTED ? image + r.start : NULL;
 }
 
 /* Enters RMA: wipes every data page and the special pages, empties the queues and disables the controller. */
-static inline lurgabel_answer lurgabel_rma(lurgabel_controller *c, uint32_t *image, size_t image_words) {
-    return (lurgabel_answer)lurgabel_layout2_rma(c, image, image_words);
+LURGABEL_CALL lurgabel_answer lurgabel_rma(lurgabel_controller *c, uint32_t *image, size_t image_words) {
+    return LURGABEL_AS(lurgabel_answer, lurgabel_layout2_rma(c, image, image_words));
 }
 
 /* ---- helpers -------------------------------------------------------------------------------------------------- */
+
+/* Says that an answer does not matter, and the compiler does not warn. */
+static inline void lurgabel_drop(lurgabel_answer answer) {
+    (void)answer;
+}
 
 /* Fills an image with erased words, as a blank flash has them. */
 static inline void lurgabel_blank_image(uint32_t *image, size_t image_words) {
@@ -408,6 +483,9 @@ static inline void lurgabel_blank_image(uint32_t *image, size_t image_words) {
         image[i] = LURGABEL_ERASED;
     }
 }
+
+#undef LURGABEL_AS
+#undef LURGABEL_CALL
 
 #ifdef __cplusplus
 }

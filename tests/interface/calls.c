@@ -55,8 +55,8 @@ lurgabel_answer call_host_read(lurgabel_controller *c) {
 
 lurgabel_answer call_view(lurgabel_controller *c) {
     lurgabel_answer answer;
-    (void)lurgabel_view(c, image, IMAGE_WORDS, 0, &answer);
-    return answer;
+    const uint32_t *page = lurgabel_view(c, image, IMAGE_WORDS, 0, &answer);
+    return page == NULL || page == image ? answer : LURGABEL_INVALID;
 }
 
 static lurgabel_answer call_rma(lurgabel_controller *c) {

@@ -43,6 +43,33 @@ void test_texts(void) {
     for (i = 0; i < 15; i++) {
         check_at(strcmp(lurgabel_answer_text((lurgabel_answer)i), texts[i]) == 0, "text", i);
     }
+    check(strcmp(lurgabel_movement_text(LURGABEL_NONE), "nothing moved") == 0, "none");
+    check(strcmp(lurgabel_movement_text(LURGABEL_MOVED), "a word moved") == 0, "moved");
+    check(strcmp(lurgabel_movement_text(LURGABEL_FINISHED), "the last word moved") == 0, "finished");
+    check(strcmp(lurgabel_movement_text(LURGABEL_STALLED), "waits for the caller") == 0, "stalled");
+}
+
+static void join(char *text, uint32_t recorded, lurgabel_answer kind, const char *name) {
+    if (recorded & LURGABEL_RECORDED(kind)) {
+        strcat(text, text[0] == 0 ? "" : ", ");
+        strcat(text, name);
+    }
+}
+
+/* Every record that there is has the names of its kinds, and no other number has a name. */
+void test_recorded_texts(void) {
+    uint32_t recorded;
+    for (recorded = 0; recorded < 0x800; recorded++) {
+        char text[80] = "";
+        join(text, recorded, LURGABEL_MALFORMED, "malformed");
+        join(text, recorded, LURGABEL_OUT_OF_RANGE, "outside the pages");
+        join(text, recorded, LURGABEL_CROSSES_WINDOW, "crosses a window");
+        join(text, recorded, LURGABEL_DENIED, "access denied");
+        if (recorded & ~0x3A0u) {
+            strcpy(text, "no such record");
+        }
+        check_at(strcmp(lurgabel_recorded_text(recorded), recorded == 0 ? "nothing" : text) == 0, "record", recorded);
+    }
 }
 
 void test_blank_image(void) {

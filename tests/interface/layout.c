@@ -87,6 +87,14 @@ HOLDS(info_index_type_0, LURGABEL_INFO_INDEX(0u, 0u, 9u) == 9 && LURGABEL_INFO_I
 HOLDS(info_index_type_1, LURGABEL_INFO_INDEX(0u, 1u, 0u) == 10 && LURGABEL_INFO_INDEX(1u, 1u, 0u) == 23);
 HOLDS(info_index_type_2, LURGABEL_INFO_INDEX(0u, 2u, 0u) == 11 && LURGABEL_INFO_INDEX(1u, 2u, 1u) == 25);
 HOLDS(address, LURGABEL_ADDRESS(16u, 1u, 0u, 0u) == 0x4000 && LURGABEL_ADDRESS(16u, 0u, 9u, 0x3FCu) == 0x27FC);
+HOLDS(image_word, LURGABEL_IMAGE_WORD(16u, 0x4000u) == 7424 && LURGABEL_IMAGE_WORD(16u, 0x3FFCu) == 4095);
+HOLDS(image_info_word, LURGABEL_IMAGE_INFO_WORD(16u, 0u, 0x400u) == 4352 &&
+                           LURGABEL_IMAGE_INFO_WORD(16u, 2u, 0x47FCu) == 14847);
+HOLDS(arguments_with_operators, LURGABEL_IMAGE_WORDS(8 | 16) == 18944 &&
+                                    LURGABEL_ADDRESS(8u | 16u, 0u | 1u, 2u | 4u, 1u | 3u) == 30723 &&
+                                    LURGABEL_INFO_INDEX(0u | 1u, 0u | 2u, 0u | 1u) == 25 &&
+                                    LURGABEL_IMAGE_WORD(8u | 16u, 0x6000u | 4u) == 9473 &&
+                                    LURGABEL_IMAGE_INFO_WORD(8u | 16u, 0u | 2u, 0x6000u | 4u) == 18433);
 HOLDS(regions, LURGABEL_REGIONS == 8);
 HOLDS(queue_words, LURGABEL_QUEUE_WORDS == 16);
 HOLDS(seed_words, LURGABEL_SEED_WORDS == 8);

@@ -38,7 +38,9 @@ int main(void) {
     run_group("answers of every call in every state", test_answers);
     run_group("values of every call", test_values);
     run_group("image length", test_image_length);
-    run_group("answer texts", test_texts);
+    run_group("texts", test_texts);
+    run_group("texts of the record", test_recorded_texts);
+    run_group("places in the image", test_places);
     run_group("blank image", test_blank_image);
     printf("%u passed, %u failed\n", passed, failed);
     return failed != 0;

@@ -27,6 +27,8 @@ void test_operation_fields(void);
 void test_values(void);
 void test_image_length(void);
 void test_texts(void);
+void test_recorded_texts(void);
+void test_places(void);
 void test_blank_image(void);
 
 /* ---- counting ------------------------------------------------------------------------------------------------- */
