@@ -1,4 +1,4 @@
-/* At compile time: the number of every field, and the constants. */
+/* At compile time: the number of every field, the functions of the library, and the constants. */
 #include "tests.h"
 
 #define HOLDS(name, condition) typedef char name[(condition) ? 1 : -1]
@@ -76,7 +76,30 @@ SIZE(lurgabel_viewed, 2);
 FIELD(lurgabel_viewed, answer, 0, 1);
 FIELD(lurgabel_viewed, start, 1, 1);
 
-HOLDS(layout, LURGABEL_LAYOUT == 2);
+/* Whoever changes a size, a place or a function in this file raises the layout. */
+HOLDS(layout, LURGABEL_LAYOUT == 2 && LURGABEL_NUMBERS == 135);
+
+#define FUNCTION(result, name, arguments) \
+    extern result(*const name##_of_layout_2) arguments; \
+    result(*const name##_of_layout_2) arguments = lurgabel_layout2_##name
+
+FUNCTION(uint32_t, reset, (lurgabel_controller *, uint32_t));
+FUNCTION(uint32_t, set_inputs, (lurgabel_controller *, uint32_t, uint32_t));
+FUNCTION(uint32_t, set_region, (lurgabel_controller *, uint32_t, lurgabel_region));
+FUNCTION(uint32_t, set_default_rights, (lurgabel_controller *, uint32_t));
+FUNCTION(uint32_t, set_info_page, (lurgabel_controller *, uint32_t, uint32_t, uint32_t, lurgabel_page_setting));
+FUNCTION(uint32_t, set_bank_erase, (lurgabel_controller *, uint32_t, uint32_t));
+FUNCTION(uint32_t, clear_errors, (lurgabel_controller *));
+FUNCTION(lurgabel_initialised, initialise, (lurgabel_controller *, const uint32_t *, size_t));
+FUNCTION(uint32_t, start, (lurgabel_controller *, lurgabel_operation));
+FUNCTION(lurgabel_stepped, step, (lurgabel_controller *, uint32_t *, size_t));
+FUNCTION(uint32_t, push, (lurgabel_controller *, uint32_t));
+FUNCTION(lurgabel_fetched, pop, (lurgabel_controller *));
+FUNCTION(lurgabel_completed, run,
+         (lurgabel_controller *, uint32_t *, size_t, lurgabel_operation, uint32_t *, size_t));
+FUNCTION(lurgabel_fetched, host_read, (const lurgabel_controller *, const uint32_t *, size_t, uint32_t));
+FUNCTION(lurgabel_viewed, view, (const lurgabel_controller *, const uint32_t *, size_t, uint32_t));
+FUNCTION(uint32_t, rma, (lurgabel_controller *, uint32_t *, size_t));
 
 /* The numbers are document 01's, typed again. */
 HOLDS(banks, LURGABEL_BANKS == 2);
