@@ -57,6 +57,7 @@ pub fn info_index(bank: u32, t: u8, page: u32) -> usize
     bank as usize * WIDE_INFO_PAGES + (info_first(t) as usize + page as usize)
 }
 
+// A 32-bit address lies in one of 4,194,304 pages.
 pub fn page_of(a: ByteAddress) -> Page
     ensures { λ r. ⌜ (r ≡ pageOf a) × (r .0 < 4194304) ⌝ }
 {

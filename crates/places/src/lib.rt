@@ -2,7 +2,7 @@
 ghost use mathlib.Core.Path.{_≡_};
 ghost use mathlib.Core.Bool.{false};
 ghost use Prim.Native.Nat.{_<_, _≤_};
-ghost use Rattle.model.specs.Kinds.{isRead, isProgram, isPageErase, isBankErase, isInformation, usesCount, rightNeeded, usesCount};
+ghost use Rattle.model.specs.Kinds.{isRead, isProgram, isPageErase, isBankErase, isInformation, usesCount, rightNeeded};
 ghost use Rattle.model.specs.Places.{spanStart, spanWords, spanAddress, totalWords, placeOf};
 ghost use Rattle.model.specs.Checks.{outOfRange};
 use model::BusWord;
