@@ -5,7 +5,7 @@
  * LURGABEL_IMAGE_WORDS(D) bus words. Both are lent to a call and changed where they lie. Every call takes any
  * controller, also a broken one, and any image length, and answers; it never traps. A refusal gives its number
  * (lurgabel_answer), otherwise a word of 0, a bit count of 0 and no seeds, and leaves every number of the controller as
- * it was, unless the table at lurgabel_answer says 'recorded'.
+ * it was, unless the table at lurgabel_answer says 'recorded', or a refused host read uses its turn (lurgabel_round).
  *
  * The calls are proved against the definitions in crates/model/specs, for every input. What is not proved is the
  * boundary itself (this header); its tests are in tests/ and reference/.
@@ -24,8 +24,8 @@ extern "C" {
 #endif
 
 /* Raised whenever lurgabel_controller or a function of the library changes. The library's names carry it, so that a
- * library that does not fit this header does not link: the linker misses 'lurgabel_layout2_reset' and the others. */
-#define LURGABEL_LAYOUT 2
+ * library that does not fit this header does not link: the linker misses 'lurgabel_layout3_reset' and the others. */
+#define LURGABEL_LAYOUT 3
 
 /* Before each call below. An answer that nobody looks at is a refusal that nobody sees, so the compiler warns of it.
  * Where an answer does not matter, lurgabel_drop(lurgabel_pop(&c, NULL)) says so; gcc does not take (void) for it. */
@@ -164,7 +164,8 @@ typedef enum lurgabel_movement {
     LURGABEL_NONE = 0,      /* nothing: it was refused */
     LURGABEL_MOVED = 1,     /* a word moved */
     LURGABEL_FINISHED = 2,  /* the last word moved */
-    LURGABEL_STALLED = 3    /* nothing yet: a read waits for room in its queue, a program for a word */
+    LURGABEL_STALLED = 3    /* nothing yet: a read waits for room in its queue, a program for a word, and in a round any
+                               step for its turn */
 } lurgabel_movement;
 
 static inline const char *lurgabel_movement_text(lurgabel_movement movement) {
@@ -172,10 +173,37 @@ static inline const char *lurgabel_movement_text(lurgabel_movement movement) {
     case LURGABEL_NONE: return "nothing moved";
     case LURGABEL_MOVED: return "a word moved";
     case LURGABEL_FINISHED: return "the last word moved";
-    case LURGABEL_STALLED: return "waits for the caller";
+    case LURGABEL_STALLED: return "waits for the caller or for its turn";
     default: return "no such movement";
     }
 }
+
+/* What a round gave the host or the step. */
+typedef enum lurgabel_turn {
+    LURGABEL_UNASKED = 0,  /* it asked for nothing */
+    LURGABEL_WAITING = 1,  /* the other one went first: nothing was done for it, ask again in the next round */
+    LURGABEL_SERVED = 2    /* it was answered, maybe with a refusal */
+} lurgabel_turn;
+
+static inline const char *lurgabel_turn_text(lurgabel_turn turn) {
+    switch (turn) {
+    case LURGABEL_UNASKED: return "not asked";
+    case LURGABEL_WAITING: return "waiting";
+    case LURGABEL_SERVED: return "served";
+    default: return "no such turn";
+    }
+}
+
+/* Look at a turn before its answer: LURGABEL_ACCEPTED says nothing of a side that was not served. */
+typedef struct lurgabel_round_reply {
+    lurgabel_turn host_turn;
+    lurgabel_answer host_answer;  /* of a served host read, else LURGABEL_ACCEPTED */
+    uint32_t word;                /* of a served and accepted host read, else 0 */
+    lurgabel_turn step_turn;
+    lurgabel_answer step_answer;  /* of a served step, else LURGABEL_ACCEPTED */
+    lurgabel_movement movement;   /* of a served step; LURGABEL_STALLED if it waits, LURGABEL_NONE if it is unasked */
+    uint32_t bits;                /* of a served step, else 0 */
+} lurgabel_round_reply;
 
 /* ---- the controller's state ----------------------------------------------------------------------------------- */
 
@@ -245,6 +273,9 @@ static inline const char *lurgabel_recorded_text(uint32_t recorded) {
     }
 }
 
+/* How many turns the steps in a bank lose to the host before one of them is served instead. */
+#define LURGABEL_LOST_LIMIT 5u
+
 /* The whole state, as plain data that a bench may read, copy, compare and write. Whatever stands in it, every call
  * answers; what encodes no state of the controller (a flag of 7, a phase of 9, rights of 256, another bit in
  * `recorded`, a running operation of kind 4 or more or with an info_type of 256) is refused with LURGABEL_INVALID, as
@@ -263,9 +294,10 @@ typedef struct lurgabel_controller {
     lurgabel_queue program_queue;         /* words pushed and not yet moved; empty unless a program is in progress */
     uint32_t recorded;                    /* LURGABEL_RECORDED(..) of the recorded kinds, added up */
     uint32_t last_address;                /* of the last recorded error; 0 if no kind is recorded */
+    uint32_t lost_turns[2];               /* of each bank, turns that its steps lost: 0 to LURGABEL_LOST_LIMIT */
 } lurgabel_controller;
 
-#define LURGABEL_NUMBERS 135u
+#define LURGABEL_NUMBERS 137u
 
 /* The library goes by the number of each field: a place that is another here does not compile. */
 #define LURGABEL_AT(name, field, number) \
@@ -284,6 +316,7 @@ LURGABEL_AT(read_queue, read_queue, 99);
 LURGABEL_AT(program_queue, program_queue, 116);
 LURGABEL_AT(recorded, recorded, 133);
 LURGABEL_AT(last_address, last_address, 134);
+LURGABEL_AT(lost_turns, lost_turns, 135);
 #undef LURGABEL_AT
 typedef char lurgabel_size[sizeof(lurgabel_controller) == 4u * LURGABEL_NUMBERS ? 1 : -1];
 
@@ -324,27 +357,40 @@ typedef struct lurgabel_viewed {
     uint32_t start;  /* the bus word of the image at which the view starts; 0 if it is refused */
 } lurgabel_viewed;
 
+/* lurgabel_round_reply in numbers. */
+typedef struct lurgabel_rounded {
+    uint32_t host_turn;
+    uint32_t host_answer;
+    uint32_t word;
+    uint32_t step_turn;
+    uint32_t step_answer;
+    uint32_t movement;
+    uint32_t bits;
+} lurgabel_rounded;
+
 /* A flag is off at 0 and on otherwise; rights or an info_type over 255 count as 255. */
-uint32_t lurgabel_layout2_reset(lurgabel_controller *c, uint32_t data_pages);
-uint32_t lurgabel_layout2_set_inputs(lurgabel_controller *c, uint32_t provision_enabled, uint32_t seeds_locked);
-uint32_t lurgabel_layout2_set_region(lurgabel_controller *c, uint32_t number, lurgabel_region region);
-uint32_t lurgabel_layout2_set_default_rights(lurgabel_controller *c, uint32_t rights);
-uint32_t lurgabel_layout2_set_info_page(lurgabel_controller *c, uint32_t bank, uint32_t info_type, uint32_t page,
+uint32_t lurgabel_layout3_reset(lurgabel_controller *c, uint32_t data_pages);
+uint32_t lurgabel_layout3_set_inputs(lurgabel_controller *c, uint32_t provision_enabled, uint32_t seeds_locked);
+uint32_t lurgabel_layout3_set_region(lurgabel_controller *c, uint32_t number, lurgabel_region region);
+uint32_t lurgabel_layout3_set_default_rights(lurgabel_controller *c, uint32_t rights);
+uint32_t lurgabel_layout3_set_info_page(lurgabel_controller *c, uint32_t bank, uint32_t info_type, uint32_t page,
                                         lurgabel_page_setting setting);
-uint32_t lurgabel_layout2_set_bank_erase(lurgabel_controller *c, uint32_t bank, uint32_t on);
-uint32_t lurgabel_layout2_clear_errors(lurgabel_controller *c);
-lurgabel_initialised lurgabel_layout2_initialise(lurgabel_controller *c, const uint32_t *image, size_t image_words);
-uint32_t lurgabel_layout2_start(lurgabel_controller *c, lurgabel_operation operation);
-lurgabel_stepped lurgabel_layout2_step(lurgabel_controller *c, uint32_t *image, size_t image_words);
-uint32_t lurgabel_layout2_push(lurgabel_controller *c, uint32_t word);
-lurgabel_fetched lurgabel_layout2_pop(lurgabel_controller *c);
-lurgabel_completed lurgabel_layout2_run(lurgabel_controller *c, uint32_t *image, size_t image_words,
+uint32_t lurgabel_layout3_set_bank_erase(lurgabel_controller *c, uint32_t bank, uint32_t on);
+uint32_t lurgabel_layout3_clear_errors(lurgabel_controller *c);
+lurgabel_initialised lurgabel_layout3_initialise(lurgabel_controller *c, const uint32_t *image, size_t image_words);
+uint32_t lurgabel_layout3_start(lurgabel_controller *c, lurgabel_operation operation);
+lurgabel_stepped lurgabel_layout3_step(lurgabel_controller *c, uint32_t *image, size_t image_words);
+uint32_t lurgabel_layout3_push(lurgabel_controller *c, uint32_t word);
+lurgabel_fetched lurgabel_layout3_pop(lurgabel_controller *c);
+lurgabel_completed lurgabel_layout3_run(lurgabel_controller *c, uint32_t *image, size_t image_words,
                                         lurgabel_operation operation, uint32_t *buffer, size_t buffer_words);
-lurgabel_fetched lurgabel_layout2_host_read(const lurgabel_controller *c, const uint32_t *image, size_t image_words,
+lurgabel_fetched lurgabel_layout3_host_read(const lurgabel_controller *c, const uint32_t *image, size_t image_words,
                                             uint32_t address);
-lurgabel_viewed lurgabel_layout2_view(const lurgabel_controller *c, const uint32_t *image, size_t image_words,
+lurgabel_rounded lurgabel_layout3_round(lurgabel_controller *c, uint32_t *image, size_t image_words,
+                                        uint32_t host_asks, uint32_t host_address, uint32_t step_asks);
+lurgabel_viewed lurgabel_layout3_view(const lurgabel_controller *c, const uint32_t *image, size_t image_words,
                                       uint32_t page);
-uint32_t lurgabel_layout2_rma(lurgabel_controller *c, uint32_t *image, size_t image_words);
+uint32_t lurgabel_layout3_rma(lurgabel_controller *c, uint32_t *image, size_t image_words);
 
 /* ---- the calls ------------------------------------------------------------------------------------------------ */
 
@@ -356,42 +402,42 @@ uint32_t lurgabel_layout2_rma(lurgabel_controller *c, uint32_t *image, size_t im
 /* Resets any controller, whatever stands in it (a new variable is best set to zeros), to D data pages in each bank:
  * every setting and input off or 0. It touches no image. Checks D alone. */
 LURGABEL_CALL lurgabel_answer lurgabel_reset(lurgabel_controller *c, uint32_t data_pages) {
-    return LURGABEL_AS(lurgabel_answer, lurgabel_layout2_reset(c, data_pages));
+    return LURGABEL_AS(lurgabel_answer, lurgabel_layout3_reset(c, data_pages));
 }
 
 /* Inputs and settings: refused while an operation is in progress, allowed when disabled. */
 LURGABEL_CALL lurgabel_answer lurgabel_set_inputs(lurgabel_controller *c, bool provision_enabled, bool seeds_locked) {
-    return LURGABEL_AS(lurgabel_answer, lurgabel_layout2_set_inputs(c, provision_enabled, seeds_locked));
+    return LURGABEL_AS(lurgabel_answer, lurgabel_layout3_set_inputs(c, provision_enabled, seeds_locked));
 }
 
 /* Region 0 to 7. Any `on` but 0 switches it on. */
 LURGABEL_CALL lurgabel_answer lurgabel_set_region(lurgabel_controller *c, uint32_t number, lurgabel_region region) {
-    return LURGABEL_AS(lurgabel_answer, lurgabel_layout2_set_region(c, number, region));
+    return LURGABEL_AS(lurgabel_answer, lurgabel_layout3_set_region(c, number, region));
 }
 
 LURGABEL_CALL lurgabel_answer lurgabel_set_default_rights(lurgabel_controller *c, uint32_t rights) {
-    return LURGABEL_AS(lurgabel_answer, lurgabel_layout2_set_default_rights(c, rights));
+    return LURGABEL_AS(lurgabel_answer, lurgabel_layout3_set_default_rights(c, rights));
 }
 
 /* An information page, by its bank, its type and its number in the type. Any `on` but 0 switches it on. */
 LURGABEL_CALL lurgabel_answer lurgabel_set_info_page(lurgabel_controller *c, uint32_t bank, uint32_t info_type,
                                                      uint32_t page, lurgabel_page_setting setting) {
-    return LURGABEL_AS(lurgabel_answer, lurgabel_layout2_set_info_page(c, bank, info_type, page, setting));
+    return LURGABEL_AS(lurgabel_answer, lurgabel_layout3_set_info_page(c, bank, info_type, page, setting));
 }
 
 LURGABEL_CALL lurgabel_answer lurgabel_set_bank_erase(lurgabel_controller *c, uint32_t bank, bool on) {
-    return LURGABEL_AS(lurgabel_answer, lurgabel_layout2_set_bank_erase(c, bank, on));
+    return LURGABEL_AS(lurgabel_answer, lurgabel_layout3_set_bank_erase(c, bank, on));
 }
 
 /* Clears the recorded kinds and the last address. */
 LURGABEL_CALL lurgabel_answer lurgabel_clear_errors(lurgabel_controller *c) {
-    return LURGABEL_AS(lurgabel_answer, lurgabel_layout2_clear_errors(c));
+    return LURGABEL_AS(lurgabel_answer, lurgabel_layout3_clear_errors(c));
 }
 
 /* Makes a controller that was reset ready. With provision enabled the seeds are handed out. */
 LURGABEL_CALL lurgabel_answer lurgabel_initialise(lurgabel_controller *c, const uint32_t *image, size_t image_words,
                                                   lurgabel_seeds *seeds) {
-    lurgabel_initialised r = lurgabel_layout2_initialise(c, image, image_words);
+    lurgabel_initialised r = lurgabel_layout3_initialise(c, image, image_words);
     if (seeds != NULL) {
         *seeds = r.seeds;
     }
@@ -400,13 +446,13 @@ LURGABEL_CALL lurgabel_answer lurgabel_initialise(lurgabel_controller *c, const 
 
 /* Starts an operation, which steps then carry out. */
 LURGABEL_CALL lurgabel_answer lurgabel_start(lurgabel_controller *c, lurgabel_operation operation) {
-    return LURGABEL_AS(lurgabel_answer, lurgabel_layout2_start(c, operation));
+    return LURGABEL_AS(lurgabel_answer, lurgabel_layout3_start(c, operation));
 }
 
 /* Moves one word of the operation in progress; `bits` is how many bits it changed in the flash. */
 LURGABEL_CALL lurgabel_answer lurgabel_step(lurgabel_controller *c, uint32_t *image, size_t image_words,
                                             lurgabel_movement *movement, uint32_t *bits) {
-    lurgabel_stepped r = lurgabel_layout2_step(c, image, image_words);
+    lurgabel_stepped r = lurgabel_layout3_step(c, image, image_words);
     if (movement != NULL) {
         *movement = LURGABEL_AS(lurgabel_movement, r.movement);
     }
@@ -418,12 +464,12 @@ LURGABEL_CALL lurgabel_answer lurgabel_step(lurgabel_controller *c, uint32_t *im
 
 /* Gives a program in progress its next word. */
 LURGABEL_CALL lurgabel_answer lurgabel_push(lurgabel_controller *c, uint32_t word) {
-    return LURGABEL_AS(lurgabel_answer, lurgabel_layout2_push(c, word));
+    return LURGABEL_AS(lurgabel_answer, lurgabel_layout3_push(c, word));
 }
 
 /* Takes the oldest word that a read has delivered. */
 LURGABEL_CALL lurgabel_answer lurgabel_pop(lurgabel_controller *c, uint32_t *word) {
-    lurgabel_fetched r = lurgabel_layout2_pop(c);
+    lurgabel_fetched r = lurgabel_layout3_pop(c);
     if (word != NULL) {
         *word = r.word;
     }
@@ -436,7 +482,7 @@ LURGABEL_CALL lurgabel_answer lurgabel_pop(lurgabel_controller *c, uint32_t *wor
 LURGABEL_CALL lurgabel_answer lurgabel_run(lurgabel_controller *c, uint32_t *image, size_t image_words,
                                            lurgabel_operation operation, uint32_t *buffer, size_t buffer_words,
                                            uint32_t *bits) {
-    lurgabel_completed r = lurgabel_layout2_run(c, image, image_words, operation, buffer, buffer_words);
+    lurgabel_completed r = lurgabel_layout3_run(c, image, image_words, operation, buffer, buffer_words);
     if (bits != NULL) {
         *bits = r.bits;
     }
@@ -447,17 +493,48 @@ LURGABEL_CALL lurgabel_answer lurgabel_run(lurgabel_controller *c, uint32_t *ima
  * there what was read. */
 LURGABEL_CALL lurgabel_answer lurgabel_host_read(lurgabel_controller *c, const uint32_t *image, size_t image_words,
                                                  uint32_t address, uint32_t *word) {
-    lurgabel_fetched r = lurgabel_layout2_host_read(c, image, image_words, address);
+    lurgabel_fetched r = lurgabel_layout3_host_read(c, image, image_words, address);
     if (word != NULL) {
         *word = r.word;
     }
     return LURGABEL_AS(lurgabel_answer, r.answer);
 }
 
+/* A round: the host asks for a read, the firmware for a step, or both at the same time, as on the chip. The host reads
+ * at *host_address; with NULL it asks for nothing. Whoever is served gets what lurgabel_host_read or lurgabel_step
+ * would answer.
+ *
+ * Where the host's address and the step's next word lie in the same bank, one of them has to wait. The host goes first,
+ * and the bank's lost_turns rises by one, also if the read is refused. Once that count is LURGABEL_LOST_LIMIT, the step
+ * goes instead, and the count returns to 0: the sixth such round serves the step at the latest. Whoever is not served
+ * is LURGABEL_WAITING, and the movement of a waiting step is LURGABEL_STALLED. An address below D x 1,024 counts as
+ * bank 0, any other one as bank 1.
+ *
+ * In every other round whoever asks is served, the host first, and the counts stay: one of them asks alone, the banks
+ * differ, or the step moves no word, since it is refused or waits for its queue. A step that waits for its queue is
+ * therefore LURGABEL_SERVED, and its movement LURGABEL_STALLED.
+ *
+ * lurgabel_step and lurgabel_host_read take no turns: called by themselves they are served whatever the counts are, and
+ * leave them. */
+LURGABEL_CALL lurgabel_round_reply lurgabel_round(lurgabel_controller *c, uint32_t *image, size_t image_words,
+                                                  const uint32_t *host_address, bool step) {
+    bool host = host_address != NULL;
+    lurgabel_rounded r = lurgabel_layout3_round(c, image, image_words, host, host ? *host_address : 0u, step);
+    lurgabel_round_reply reply;
+    reply.host_turn = LURGABEL_AS(lurgabel_turn, r.host_turn);
+    reply.host_answer = LURGABEL_AS(lurgabel_answer, r.host_answer);
+    reply.word = r.word;
+    reply.step_turn = LURGABEL_AS(lurgabel_turn, r.step_turn);
+    reply.step_answer = LURGABEL_AS(lurgabel_answer, r.step_answer);
+    reply.movement = LURGABEL_AS(lurgabel_movement, r.movement);
+    reply.bits = r.bits;
+    return reply;
+}
+
 /* The 256 words of a data page (0 to 2D - 1) inside the caller's own image, or NULL if the view is refused. */
 LURGABEL_CALL const uint32_t *lurgabel_view(const lurgabel_controller *c, const uint32_t *image, size_t image_words,
                                             uint32_t page, lurgabel_answer *answer) {
-    lurgabel_viewed r = lurgabel_layout2_view(c, image, image_words, page);
+    lurgabel_viewed r = lurgabel_layout3_view(c, image, image_words, page);
     if (answer != NULL) {
         *answer = LURGABEL_AS(lurgabel_answer, r.answer);
     }
@@ -466,7 +543,7 @@ LURGABEL_CALL const uint32_t *lurgabel_view(const lurgabel_controller *c, const 
 
 /* Enters RMA: wipes every data page and the special pages, empties the queues and disables the controller. */
 LURGABEL_CALL lurgabel_answer lurgabel_rma(lurgabel_controller *c, uint32_t *image, size_t image_words) {
-    return LURGABEL_AS(lurgabel_answer, lurgabel_layout2_rma(c, image, image_words));
+    return LURGABEL_AS(lurgabel_answer, lurgabel_layout3_rma(c, image, image_words));
 }
 
 /* ---- helpers -------------------------------------------------------------------------------------------------- */

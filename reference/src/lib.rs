@@ -1,4 +1,4 @@
-//! A second, independent program for the flash controller of document 01, and
+//! A second, independent program for the flash controller of documents 01 and 02, and
 //! the C interface of the proved model, so that the two can be compared.
 //!
 //! The second program (`model`) shares no code with the proved model. `plain`

@@ -59,6 +59,20 @@ lurgabel_answer call_view(lurgabel_controller *c) {
     return page == NULL || page == image ? answer : LURGABEL_INVALID;
 }
 
+/* Both sides ask; the host's bank is that of the operations in `states` below. */
+static lurgabel_round_reply round_at_0(lurgabel_controller *c) {
+    static const uint32_t address = 0;
+    return lurgabel_round(c, image, IMAGE_WORDS, &address, true);
+}
+
+lurgabel_answer call_round_host(lurgabel_controller *c) {
+    return round_at_0(c).host_answer;
+}
+
+static lurgabel_answer call_round_step(lurgabel_controller *c) {
+    return round_at_0(c).step_answer;
+}
+
 static lurgabel_answer call_rma(lurgabel_controller *c) {
     return lurgabel_rma(c, image, IMAGE_WORDS);
 }
@@ -97,6 +111,8 @@ static const call calls[] = {
     {"run", call_run, {1, 3, 2, 9, 0, 4, 4}},
     {"host_read", call_host_read, {1, 3, 2, 9, 0, 0, 0}},
     {"view", call_view, {1, 3, 2, 9, 0, 0, 0}},
+    {"round, the host", call_round_host, {1, 3, 2, 9, 0, 0, 0}},
+    {"round, the step", call_round_step, {1, 3, 2, 12, 12, 0, 0}},
     {"rma", call_rma, {1, 0, 2, 0, 0, 4, 4}},
     {"reset", call_reset, {0, 0, 0, 0, 0, 0, 0}},
     {"reset with D = 9", call_reset_to_9, {1, 1, 1, 1, 1, 1, 1}},
@@ -116,6 +132,24 @@ void test_answers(void) {
             if (answer != LURGABEL_ACCEPTED && answer != LURGABEL_DENIED) {
                 check_at(same(&before, &after), calls[i].name, s);
             }
+        }
+    }
+}
+
+static bool sets_lost_turns(const call *made) {
+    return made->perform == call_round_host || made->perform == call_round_step || made->perform == call_reset;
+}
+
+/* Rounds and a reset alone change the lost turns, and no other answer depends on them. */
+void test_lost_turns_left(void) {
+    size_t i, s;
+    for (i = 0; i < CALL_COUNT; i++) {
+        for (s = 0; !sets_lost_turns(&calls[i]) && s < 7; s++) {
+            lurgabel_controller c = states[s]();
+            c.lost_turns[0] = LURGABEL_LOST_LIMIT;
+            c.lost_turns[1] = 3;
+            check_at(calls[i].perform(&c) == (lurgabel_answer)calls[i].answers[s], calls[i].name, s);
+            check_at(c.lost_turns[0] == LURGABEL_LOST_LIMIT && c.lost_turns[1] == 3, calls[i].name, s);
         }
     }
 }
@@ -154,7 +188,7 @@ static void test_left_by(const call *refused, lurgabel_controller before) {
     check(same(&before, &after), refused->name);
 }
 
-/* Rights, flags and kinds that encode nothing, in a state that is otherwise valid. */
+/* Rights, flags, kinds and lost turns that no controller has, in a state that is otherwise valid. */
 static void test_large_left_by(const call *refused) {
     lurgabel_controller c = programming();
     c.regions[7].rights = 256;
@@ -167,6 +201,12 @@ static void test_large_left_by(const call *refused) {
     test_left_by(refused, c);
     c = erasing_bank();
     c.progress.operation.kind = 259;
+    test_left_by(refused, c);
+    c = programming();
+    c.lost_turns[0] = LURGABEL_LOST_LIMIT + 1;
+    test_left_by(refused, c);
+    c = uninitialised();
+    c.lost_turns[1] = 0xFFFFFFFFu;
     test_left_by(refused, c);
 }
 

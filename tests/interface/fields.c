@@ -35,6 +35,7 @@ const field fields[FIELD_COUNT] = {
     ONE(program_queue.length, 17, true, false),
     ONE(recorded, 1, true, false),
     ONE(last_address, 0x87654321, false, false),
+    EACH(lost_turns, 2, 6, true, false),
 };
 
 void put(lurgabel_controller *c, const field *f, size_t element, uint32_t value) {
@@ -105,6 +106,8 @@ void test_fields_by_number(void) {
     IS_NUMBER(program_queue.length, 132);
     IS_NUMBER(recorded, 133);
     IS_NUMBER(last_address, 134);
+    IS_NUMBER(lost_turns[0], 135);
+    IS_NUMBER(lost_turns[1], 136);
 }
 
 /* One field alone is broken: the clearing of errors, which checks the state and nothing else, is refused. */

@@ -3,13 +3,17 @@
 
 /* Every call that is lent an image looks at its length first. */
 static void test_image_of(uint32_t *lent, size_t words) {
+    static const uint32_t address = 0;
     lurgabel_controller c = ready();
     lurgabel_answer answer;
+    lurgabel_round_reply r;
     check_at(lurgabel_initialise(&c, lent, words, NULL) == LURGABEL_INVALID, "initialise", words);
     check_at(lurgabel_step(&c, lent, words, NULL, NULL) == LURGABEL_INVALID, "step", words);
     check_at(lurgabel_run(&c, lent, words, on_data(LURGABEL_READ, 0, 1), buffer, 1, NULL) == LURGABEL_INVALID, "run",
              words);
     check_at(lurgabel_host_read(&c, lent, words, 0, NULL) == LURGABEL_INVALID, "host_read", words);
+    r = lurgabel_round(&c, lent, words, &address, true);
+    check_at(r.host_answer == LURGABEL_INVALID && r.step_answer == LURGABEL_INVALID, "round", words);
     check_at(lurgabel_view(&c, lent, words, 0, &answer) == NULL && answer == LURGABEL_INVALID, "view", words);
     check_at(lurgabel_rma(&c, lent, words) == LURGABEL_INVALID, "rma", words);
 }
@@ -46,7 +50,11 @@ void test_texts(void) {
     check(strcmp(lurgabel_movement_text(LURGABEL_NONE), "nothing moved") == 0, "none");
     check(strcmp(lurgabel_movement_text(LURGABEL_MOVED), "a word moved") == 0, "moved");
     check(strcmp(lurgabel_movement_text(LURGABEL_FINISHED), "the last word moved") == 0, "finished");
-    check(strcmp(lurgabel_movement_text(LURGABEL_STALLED), "waits for the caller") == 0, "stalled");
+    check(strcmp(lurgabel_movement_text(LURGABEL_STALLED), "waits for the caller or for its turn") == 0, "stalled");
+    check(strcmp(lurgabel_turn_text(LURGABEL_UNASKED), "not asked") == 0, "unasked");
+    check(strcmp(lurgabel_turn_text(LURGABEL_WAITING), "waiting") == 0, "waiting");
+    check(strcmp(lurgabel_turn_text(LURGABEL_SERVED), "served") == 0, "served");
+    check(strcmp(lurgabel_turn_text((lurgabel_turn)3), "no such turn") == 0, "turn 3");
 }
 
 static void join(char *text, uint32_t recorded, lurgabel_answer kind, const char *name) {

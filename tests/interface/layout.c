@@ -34,7 +34,7 @@ FIELD(lurgabel_progress, moved, 5, 1);
 FIELD(lurgabel_progress, readable, 6, 1);
 FIELD(lurgabel_progress, running, 7, 1);
 
-SIZE(lurgabel_controller, 135);
+SIZE(lurgabel_controller, 137);
 FIELD(lurgabel_controller, data_pages, 0, 1);
 FIELD(lurgabel_controller, phase, 1, 1);
 FIELD(lurgabel_controller, provision_enabled, 2, 1);
@@ -48,7 +48,8 @@ FIELD(lurgabel_controller, read_queue, 99, 17);
 FIELD(lurgabel_controller, program_queue, 116, 17);
 FIELD(lurgabel_controller, recorded, 133, 1);
 FIELD(lurgabel_controller, last_address, 134, 1);
-HOLDS(controller_numbers, LURGABEL_NUMBERS == 135);
+FIELD(lurgabel_controller, lost_turns, 135, 2);
+HOLDS(controller_numbers, LURGABEL_NUMBERS == 137);
 
 SIZE(lurgabel_seeds, 17);
 FIELD(lurgabel_seeds, creator, 0, 8);
@@ -76,12 +77,21 @@ SIZE(lurgabel_viewed, 2);
 FIELD(lurgabel_viewed, answer, 0, 1);
 FIELD(lurgabel_viewed, start, 1, 1);
 
+SIZE(lurgabel_rounded, 7);
+FIELD(lurgabel_rounded, host_turn, 0, 1);
+FIELD(lurgabel_rounded, host_answer, 1, 1);
+FIELD(lurgabel_rounded, word, 2, 1);
+FIELD(lurgabel_rounded, step_turn, 3, 1);
+FIELD(lurgabel_rounded, step_answer, 4, 1);
+FIELD(lurgabel_rounded, movement, 5, 1);
+FIELD(lurgabel_rounded, bits, 6, 1);
+
 /* Whoever changes a size, a place or a function in this file raises the layout. */
-HOLDS(layout, LURGABEL_LAYOUT == 2 && LURGABEL_NUMBERS == 135);
+HOLDS(layout, LURGABEL_LAYOUT == 3 && LURGABEL_NUMBERS == 137);
 
 #define FUNCTION(result, name, arguments) \
-    extern result(*const name##_of_layout_2) arguments; \
-    result(*const name##_of_layout_2) arguments = lurgabel_layout2_##name
+    extern result(*const name##_of_layout_3) arguments; \
+    result(*const name##_of_layout_3) arguments = lurgabel_layout3_##name
 
 FUNCTION(uint32_t, reset, (lurgabel_controller *, uint32_t));
 FUNCTION(uint32_t, set_inputs, (lurgabel_controller *, uint32_t, uint32_t));
@@ -98,10 +108,11 @@ FUNCTION(lurgabel_fetched, pop, (lurgabel_controller *));
 FUNCTION(lurgabel_completed, run,
          (lurgabel_controller *, uint32_t *, size_t, lurgabel_operation, uint32_t *, size_t));
 FUNCTION(lurgabel_fetched, host_read, (const lurgabel_controller *, const uint32_t *, size_t, uint32_t));
+FUNCTION(lurgabel_rounded, round, (lurgabel_controller *, uint32_t *, size_t, uint32_t, uint32_t, uint32_t));
 FUNCTION(lurgabel_viewed, view, (const lurgabel_controller *, const uint32_t *, size_t, uint32_t));
 FUNCTION(uint32_t, rma, (lurgabel_controller *, uint32_t *, size_t));
 
-/* The numbers are document 01's, typed again. */
+/* The numbers are those of documents 01 and 02, typed again. */
 HOLDS(banks, LURGABEL_BANKS == 2);
 HOLDS(page_words, LURGABEL_PAGE_WORDS == 256);
 HOLDS(page_bytes, LURGABEL_PAGE_BYTES == 1024);
@@ -124,6 +135,7 @@ HOLDS(seed_words, LURGABEL_SEED_WORDS == 8);
 HOLDS(min_data_pages, LURGABEL_MIN_DATA_PAGES == 10);
 HOLDS(max_data_pages, LURGABEL_MAX_DATA_PAGES == 256);
 HOLDS(max_count, LURGABEL_MAX_COUNT == 1024);
+HOLDS(lost_limit, LURGABEL_LOST_LIMIT == 5);
 HOLDS(erased, LURGABEL_ERASED == 4294967295u);
 HOLDS(image_words_10, LURGABEL_IMAGE_WORDS(10) == 11776);
 HOLDS(image_words_16, LURGABEL_IMAGE_WORDS(16) == 14848);
@@ -143,4 +155,5 @@ HOLDS(answers_5_to_9, LURGABEL_MALFORMED == 5 && LURGABEL_SHORT_BUFFER == 6 && L
 HOLDS(answers_10_to_13, LURGABEL_QUEUE_EMPTY == 10 && LURGABEL_QUEUE_FULL == 11 && LURGABEL_UNEXPECTED == 12 &&
                             LURGABEL_BAD_SETTING == 13);
 HOLDS(movements, LURGABEL_NONE == 0 && LURGABEL_MOVED == 1 && LURGABEL_FINISHED == 2 && LURGABEL_STALLED == 3);
+HOLDS(turns, LURGABEL_UNASKED == 0 && LURGABEL_WAITING == 1 && LURGABEL_SERVED == 2);
 HOLDS(recorded_bits, LURGABEL_RECORDED(LURGABEL_MALFORMED) == 0x20 && LURGABEL_RECORDED(LURGABEL_DENIED) == 0x200);

@@ -6,6 +6,7 @@ static void test_litter_kept(void) {
     static lurgabel_answer (*const quiet[])(lurgabel_controller *) = {
         call_set_inputs,     call_set_region,   call_set_default_rights, call_set_info_page,
         call_set_bank_erase, call_clear_errors, call_host_read,          call_view,
+        call_round_host,
     };
     size_t i;
     for (i = 0; i < sizeof quiet / sizeof quiet[0]; i++) {

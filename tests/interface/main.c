@@ -36,7 +36,9 @@ int main(void) {
     run_group("litter kept and cleared", test_litter);
     run_group("operations refused", test_operation_fields);
     run_group("answers of every call in every state", test_answers);
+    run_group("lost turns left by every call", test_lost_turns_left);
     run_group("values of every call", test_values);
+    run_group("rounds", test_rounds);
     run_group("image length", test_image_length);
     run_group("texts", test_texts);
     run_group("texts of the record", test_recorded_texts);

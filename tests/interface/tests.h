@@ -17,6 +17,7 @@ void test_fields_are_all_listed(void);
 void test_fields_by_number(void);
 void test_handed_back(void);
 void test_answers(void);
+void test_lost_turns_left(void);
 void test_valid_states(void);
 void test_broken_alone(void);
 void test_large_numbers(void);
@@ -25,6 +26,7 @@ void test_understood(void);
 void test_litter(void);
 void test_operation_fields(void);
 void test_values(void);
+void test_rounds(void);
 void test_image_length(void);
 void test_texts(void);
 void test_recorded_texts(void);
@@ -48,7 +50,7 @@ typedef struct field {
     bool refused, byte;
 } field;
 
-#define FIELD_COUNT 26u
+#define FIELD_COUNT 27u
 extern const field fields[FIELD_COUNT];
 
 void put(lurgabel_controller *c, const field *f, size_t element, uint32_t value);
@@ -107,5 +109,6 @@ lurgabel_answer call_set_bank_erase(lurgabel_controller *c);
 lurgabel_answer call_clear_errors(lurgabel_controller *c);
 lurgabel_answer call_host_read(lurgabel_controller *c);
 lurgabel_answer call_view(lurgabel_controller *c);
+lurgabel_answer call_round_host(lurgabel_controller *c);
 
 #endif

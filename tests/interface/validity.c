@@ -101,6 +101,18 @@ static void test_valid_recorded(void) {
     }
 }
 
+/* In any phase; whether an operation is in progress does not matter. */
+static void test_valid_lost_turns(void) {
+    VALID_WITH(uninitialised, lost_turns[0], 5);
+    INVALID_WITH(uninitialised, lost_turns[0], 6);
+    VALID_WITH(disabled, lost_turns[1], 5);
+    INVALID_WITH(disabled, lost_turns[1], 255);
+    INVALID_WITH(ready, lost_turns[0], 256);
+    INVALID_WITH(ready, lost_turns[1], 261);
+    VALID_WITH(erasing_page, lost_turns[1], 5);
+    INVALID_WITH(erasing_page, lost_turns[1], 0xFFFFFFFFu);
+}
+
 void test_valid_states(void) {
     test_valid_idle();
     test_valid_not_running();
@@ -108,4 +120,5 @@ void test_valid_states(void) {
     test_valid_reading();
     test_valid_erasing();
     test_valid_recorded();
+    test_valid_lost_turns();
 }

@@ -6,6 +6,8 @@ use Rattle.model.specs.declared.Inputs.{Inputs}
 use Rattle.model.specs.declared.Region.{Region}
 use Rattle.model.specs.declared.PageSetting.{PageSetting}
 use Rattle.model.specs.declared.Operation.{Operation}
+use Rattle.model.specs.declared.HostRequest.{HostRequest}
+use Rattle.model.specs.declared.HostRequest.the-variants.{Nothing, Word}
 use Rattle.registers.specs.Registers.{isOn}
 use Rattle.calls.specs.declared.AskedRegion.{AskedRegion}
 use Rattle.calls.specs.declared.AskedSetting.{AskedSetting}
@@ -33,3 +35,7 @@ operationOf o = record {
   address = record { 0 = o .address };
   count = o .count;
 }
+
+-- In a round the host asks the word at an address, or nothing: then no rule looks at the address.
+abbrev pub hostRequestOf : ℕ → ℕ → HostRequest
+hostRequestOf asks address = cond (isOn asks) (Word (record { 0 = address })) Nothing

@@ -1,8 +1,9 @@
 -- The calls on registers: what each tells, as numbers, and what it leaves of the registers, the flash and the buffer that it is
 -- lent. Each is the model's call on the controller that the registers stand for. (house)
 use Prim.Native.Nat.{ℕ}
-use mathlib.Core.Bool.{Bool, _||_, cond}
+use mathlib.Core.Bool.{Bool, _||_, not, cond}
 use mathlib.Core.List.{List}
+use lib.Dec.{eqb}
 use Rattle.model.specs.State.{Flash, Leaves}
 use Rattle.model.specs.Refusals.{numberOf, accepts}
 use Rattle.model.specs.Errors.{isRecorded, clear}
@@ -10,6 +11,7 @@ use Rattle.model.specs.Settings.{setInputs, setRegion, setDefault, setInfo, set
 use Rattle.model.specs.Lifecycle.{reset, initialise, rma}
 use Rattle.model.specs.Steps.{start, push, pop, step}
 use Rattle.model.specs.Host.{hostRead, viewAnswer, view}
+use Rattle.model.specs.Rounds.{round}
 use Rattle.model.specs.Whole.{WholeLeaves, whole}
 use Rattle.model.specs.declared.Page.{Page}
 use Rattle.model.specs.declared.ByteAddress.{ByteAddress}
@@ -20,6 +22,12 @@ use Rattle.model.specs.declared.Operation.{Operation}
 use Rattle.model.specs.declared.Answer.{Answer}
 use Rattle.model.specs.declared.Movement.{Movement}
 use Rattle.model.specs.declared.Movement.the-variants.{None, Moved, Finished, Stalled}
+use Rattle.model.specs.declared.HostRequest.{HostRequest}
+use Rattle.model.specs.declared.Turn.{Turn}
+use Rattle.model.specs.declared.Turn.the-variants.{Unasked, Waiting, Served}
+use Rattle.model.specs.declared.HostTurn.{HostTurn}
+use Rattle.model.specs.declared.StepTurn.{StepTurn}
+use Rattle.model.specs.declared.Rounded.{Rounded}
 use Rattle.model.specs.declared.Outcome.{Outcome}
 use Rattle.model.specs.declared.Fetched.{Fetched}
 use Rattle.model.specs.declared.Stepped.{Stepped}
@@ -27,6 +35,9 @@ use Rattle.model.specs.declared.Initialised.{Initialised}
 use Rattle.registers.specs.Registers.{flagOf, decode, handBack, cleared}
 use Rattle.calls.specs.declared.ToldWord.{ToldWord}
 use Rattle.calls.specs.declared.ToldStep.{ToldStep}
+use Rattle.calls.specs.declared.ToldHostTurn.{ToldHostTurn}
+use Rattle.calls.specs.declared.ToldStepTurn.{ToldStepTurn}
+use Rattle.calls.specs.declared.ToldRound.{ToldRound}
 use Rattle.calls.specs.declared.ToldBits.{ToldBits}
 use Rattle.calls.specs.declared.ToldStart.{ToldStart}
 use Rattle.calls.specs.declared.ToldSeeds.{ToldSeeds}
@@ -124,6 +135,39 @@ rmaLeft s l = record {
 
 unfoldable pub rmaIn : List ℕ → Flash → LeftFlash ℕ
 rmaIn s f = rmaLeft s (rma (decode s) f)
+
+-- ---- a round: what it tells the host and the step
+
+abbrev pub turnNumber : Turn → ℕ
+turnNumber Unasked = 0
+turnNumber Waiting = 1
+turnNumber Served = 2
+
+abbrev pub hostTold : HostTurn → ToldHostTurn
+hostTold h = record { turn = turnNumber (h .turn); answer = numberOf (h .answer); word = h .word }
+
+abbrev pub stepTold : StepTurn → ToldStepTurn
+stepTold t = record {
+  turn = turnNumber (t .turn);
+  answer = numberOf (t .answer);
+  movement = movementNumber (t .movement);
+  bits = t .bits;
+}
+
+-- A round changes registers where its step is asked and not refused: it moves a word, or loses its turn and is counted. That
+-- is told by the movement.
+abbrev pub tellsMovement : Movement → Bool
+tellsMovement m = not (eqb (movementNumber m) 0)
+
+abbrev pub roundLeft : List ℕ → Leaves Rounded → LeftFlash ToldRound
+roundLeft s l = record {
+  told = record { host = hostTold (l .result .host); step = stepTold (l .result .step) };
+  registers = handBack (tellsMovement (l .result .step .movement)) s (l .result .controller);
+  flash = l .flash;
+}
+
+unfoldable pub roundIn : List ℕ → Flash → HostRequest → Bool → LeftFlash ToldRound
+roundIn s f host step = roundLeft s (round (decode s) f host step)
 
 -- ---- a reset that is accepted leaves zeros, whatever the registers held
 

@@ -3,10 +3,11 @@
 ghost use mathlib.Core.Path.{_≡_};
 ghost use Rattle.model.specs.Refusals.{numberOf};
 ghost use Rattle.registers.specs.Registers.{isOn};
-ghost use Rattle.calls.specs.Asked.{byteOf, inputsOf, regionOf, settingOf, operationOf};
+ghost use Rattle.calls.specs.Asked.{byteOf, inputsOf, regionOf, settingOf, operationOf, hostRequestOf};
 ghost use Rattle.calls.specs.Calls.{movementNumber};
 use model::Answer;
 use model::ByteAddress;
+use model::HostRequest;
 use model::Inputs;
 use model::Movement;
 use model::Operation;
@@ -96,6 +97,16 @@ pub fn operation(o: AskedOperation) -> Operation
     }
 }
 
+// What the host asks in a round: an address is looked at only if it asks.
+pub fn host_request(asks: u32, address: u32) -> HostRequest
+    ensures { λ r. ⌜ r ≡ hostRequestOf asks address ⌝ }
+{
+    if flag(asks) {
+        return HostRequest::Word(ByteAddress(address));
+    }
+    HostRequest::Nothing
+}
+
 // ---- what is handed back
 
 #[repr(C)]
@@ -115,6 +126,28 @@ pub struct ToldStep {
 pub struct ToldBits {
     pub answer: u32,
     pub bits: u32,
+}
+
+// What a round tells the host and the step.
+#[repr(C)]
+pub struct ToldHostTurn {
+    pub turn: u32,
+    pub answer: u32,
+    pub word: u32,
+}
+
+#[repr(C)]
+pub struct ToldStepTurn {
+    pub turn: u32,
+    pub answer: u32,
+    pub movement: u32,
+    pub bits: u32,
+}
+
+#[repr(C)]
+pub struct ToldRound {
+    pub host: ToldHostTurn,
+    pub step: ToldStepTurn,
 }
 
 // Where a view starts in the image.

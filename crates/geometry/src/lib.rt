@@ -1,7 +1,7 @@
 // Pages, bus words and byte addresses: the conversions between the three, for every D.
 ghost use mathlib.Core.Path.{_≡_};
 ghost use Prim.Native.Nat.{_+_, _<_, _≤_};
-ghost use Rattle.model.specs.Geometry.{pagesFit, imageWords, infoCount, infoFirst, infoIndex, dataImagePage, infoImagePage, firstWord, pageOf, pageStart, bankOf, pageInBank, wordInPage, imagePage, wordAt, specialPage};
+ghost use Rattle.model.specs.Geometry.{pagesFit, imageWords, infoCount, infoFirst, infoIndex, dataImagePage, infoImagePage, firstWord, pageOf, pageStart, bankOf, pageInBank, bankOfWord, wordInPage, imagePage, wordAt, specialPage};
 use model::BusWord;
 use model::ByteAddress;
 use model::INFO_PAGES;
@@ -82,6 +82,14 @@ pub fn page_in_bank(d: u32, p: Page) -> u32
 {
     let page = p.0;
     if page < d { page } else { page - d }
+}
+
+// The bank of a bus word of the image.
+pub fn bank_of_word(d: u32, w: BusWord) -> u32
+    ensures { λ r. ⌜ (r ≡ bankOfWord d w) × (r ≤ 1) ⌝ }
+{
+    let bank = (d as usize + WIDE_INFO_PAGES) * WIDE_PAGE_WORDS;
+    if (w.0 as usize) < bank { 0 } else { 1 }
 }
 
 // The bus word of its page at which an address lies.

@@ -13,7 +13,7 @@ use types.Run.{OneOf}
 use Rattle.model.specs.Geometry.{imageWords}
 use Rattle.model.specs.Kinds.{isRead, isBankErase}
 use Rattle.model.specs.Queue.{isEmpty, isFull, pushed}
-use Rattle.model.specs.State.{Flash, withQueues, withPrograms, isBusy}
+use Rattle.model.specs.State.{Flash, withQueues, withPrograms, isBusy, operationOf, movedOf}
 use Rattle.model.specs.Rights.{readableWords}
 use Rattle.model.specs.Refusals.{accepts, isDenied, check, orElse, readyAnswer, refused}
 use Rattle.model.specs.Checks.{operationAnswer}
@@ -34,7 +34,6 @@ use Rattle.model.specs.declared.Answer.the-variants.{Accepted, Invalid, 
 use Rattle.model.proofs.Work.{the-type}
 use Rattle.model.proofs.Bool.{which}
 use Rattle.model.proofs.Places.{span-address-fits, bank-words-le}
-use Rattle.model.proofs.WorkParts.{operationOf, movedOf}
 use Rattle.model.proofs.Moving.{Moving, with-valid, with-length}
 use Rattle.model.proofs.Order.{pages-bound}
 use Rattle.model.proofs.Answers.{both-accept, check-passed}

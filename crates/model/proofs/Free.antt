@@ -75,4 +75,5 @@ free-again c e q h fits empty =
       eqb-true (q .reads .len) 0 (and-left (isEmpty (q .reads)) _ empty),
       eqb-true (q .programs .len) 0 (and-right (isEmpty (q .reads)) _ empty),
       h .ready,
+      v .physical,
     )

@@ -19,4 +19,5 @@ pub mod Starting
 pub mod StepLaws
 pub mod Accepting
 pub mod Free
+pub mod Rounds
 pub mod Bench

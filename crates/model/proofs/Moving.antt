@@ -5,7 +5,7 @@ use mathlib.Core.Bool.{true, false, _||_, or-false}
 use lib.ListN.{length}
 use Rattle.model.specs.Geometry.{imageWords}
 use Rattle.model.specs.Places.{totalWords, placeOf}
-use Rattle.model.specs.State.{Flash, flashFits, isReady}
+use Rattle.model.specs.State.{Flash, flashFits, isReady, operationOf, movedOf}
 use Rattle.model.specs.Refusals.{accepts, isDenied}
 use Rattle.model.specs.Checks.{outOfRange, operationAnswer}
 use Rattle.model.specs.Valid.{runningFits, valid, validWith}
@@ -20,7 +20,7 @@ use Rattle.model.proofs.Answers.{asked-in-range}
 use Rattle.model.proofs.Flashes.{fits-length}
 use Rattle.model.proofs.Valid.{valid-parts}
 use Rattle.model.proofs.Order.{pages-bound}
-use Rattle.model.proofs.WorkParts.{operationOf, movedOf, askedFits, WorkParts, work-parts}
+use Rattle.model.proofs.WorkParts.{askedFits, WorkParts, work-parts}
 
 -- Both lengths of a valid state are at most 16,
 pub queue-bounds : (c : Controller) → valid c ≡ true → (c .queues .reads .len ≤ 16) × (c .queues .programs .len ≤ 16)

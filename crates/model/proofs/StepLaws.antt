@@ -6,7 +6,7 @@ use Rattle.model.specs.Words.{allOnes, programmed}
 use Rattle.model.specs.Kinds.{isRead}
 use Rattle.model.specs.Places.{placeOf}
 use Rattle.model.specs.Queue.{oldest}
-use Rattle.model.specs.State.{Flash, stored, withWord}
+use Rattle.model.specs.State.{Flash, Leaves, stored, withWord}
 use Rattle.model.specs.Rights.{readableWords}
 use Rattle.model.specs.Refusals.{numberOf, accepts, isDenied, readyAnswer, refused}
 use Rattle.model.specs.Checks.{operationAnswer}
@@ -19,8 +19,10 @@ use Rattle.model.specs.declared.Progress.{Progress}
 use Rattle.model.specs.declared.Progress.the-variants.{Idle, Running}
 use Rattle.model.specs.declared.Setup.{Setup}
 use Rattle.model.specs.declared.Controller.{Controller}
-use Rattle.model.specs.declared.Movement.the-variants.{None}
-use Rattle.model.specs.declared.Answer.the-variants.{Accepted}
+use Rattle.model.specs.declared.Movement.the-variants.{None, Stalled}
+use Rattle.model.specs.declared.Answer.{Answer}
+use Rattle.model.specs.declared.Stepped.{Stepped}
+use Rattle.model.specs.declared.Answer.the-variants.{Accepted, Unexpected}
 use Rattle.model.proofs.Bool.{and-left, and-right, by-test}
 use Rattle.model.proofs.Answers.{denied-if-told, ready-accepts}
 use Rattle.model.proofs.Moving.{busy-ready, with-valid}
@@ -83,6 +85,19 @@ module _ (c : Controller) (f : Flash) where
   -- What a valid state has in progress can be stepped.
   pub busy-steps : (w : Work) → validWith c f ≡ true → c .progress ≡ Running w → step c f ≡ stepProgress c f (Running w)
   busy-steps w h e = step-ready (rw h (ready-accepts (c .phase) (busy-ready c w (with-valid c f h) e))) e
+
+  -- Whatever holds where a step is refused, where it waits and where it moves a word, holds of every step.
+  pub by-step : (P : Leaves Stepped → Type 0) → ((a : Answer) → accepts a ≡ false → P (still c a None f)) → P (still c Accepted Stalled f)
+      → ((w : Work) → P (advance c f w)) → P (step c f)
+  unfolding stepProgress
+  by-step P refuses waits moves =
+      by-test (accepts (readyAnswer (validWith c f) (c .phase)))
+      (λ e. rw (step-ready e refl) (in-progress (c .progress)))
+      (λ e. rw (step-unready e) (refuses (readyAnswer (validWith c f) (c .phase)) e))
+    where
+      in-progress : (p : Progress) → P (stepProgress c f p)
+      in-progress Idle = refuses Unexpected refl
+      in-progress (Running w) = by-test (stalls (c .queues) w) (λ t. rw t waits) (λ t. rw t (moves w))
 
 -- ---- the flash after a step
 

@@ -14,7 +14,7 @@ use Rattle.model.specs.State.{isReady}
 use Rattle.model.specs.Rights.{readableWords}
 use Rattle.model.specs.Refusals.{accepts, isDenied}
 use Rattle.model.specs.Checks.{operationAnswer}
-use Rattle.model.specs.Valid.{all, settingsFit, errorsFit, bothEmpty, queuesFit, progressFits, runningFits, valid}
+use Rattle.model.specs.Valid.{all, settingsFit, errorsFit, bothEmpty, queuesFit, progressFits, physicalFits, runningFits, valid}
 use Rattle.model.specs.declared.Phase.{Phase}
 use Rattle.model.specs.declared.Errors.{Errors}
 use Rattle.model.specs.declared.Queue.{Queue}
@@ -28,9 +28,9 @@ use Rattle.model.proofs.Answers.{asked-in-range}
 
 -- ---- a valid state, part by part
 
--- A controller with the same setup.
+-- A controller with the same setup and physical part.
 abbrev pub changed : Controller → Phase → Errors → Queues → Progress → Controller
-changed c ph e q p = record { setup = c .setup; phase = ph; errors = e; queues = q; progress = p }
+changed c ph e q p = record { setup = c .setup; phase = ph; errors = e; queues = q; progress = p; physical = c .physical }
 
 pub record ValidParts (c : Controller) : Type 0 where
   pub pages : pagesFit (c .setup .pages) ≡ true
@@ -40,6 +40,7 @@ pub record ValidParts (c : Controller) : Type 0 where
   pub programs : c .queues .programs .len ≤ 16
   pub closed : (isReady (c .phase) || bothEmpty (c .queues)) ≡ true
   pub progress : progressFits (isReady (c .phase)) (c .progress) ≡ true
+  pub physical : physicalFits (c .physical) ≡ true
   pub running : runningFits (c .setup) (c .queues .programs) (c .progress) ≡ true
 
 pub valid-parts : (c : Controller) → valid c ≡ true → ValidParts c
@@ -52,6 +53,7 @@ valid-parts c h =
     let h₂ = and-right (settingsFit (c .setup .pages) (c .setup .settings)) _ h₁ in
     let h₃ = and-right (errorsFit (c .errors)) _ h₂ in
     let h₄ = and-right (queuesFit ready (c .queues)) _ h₃ in
+    let h₅ = and-right (progressFits ready (c .progress)) _ h₄ in
     let queued = and-left (queuesFit ready (c .queues)) _ h₃ in
     let held = and-left both _ queued in
     record {
@@ -62,7 +64,8 @@ valid-parts c h =
       programs = leb-true _ _ (and-right (fits (c .queues .reads)) _ held);
       closed = and-right both _ queued;
       progress = and-left (progressFits ready (c .progress)) _ h₄;
-      running = and-right (progressFits ready (c .progress)) _ h₄;
+      physical = and-left (physicalFits (c .physical)) _ h₅;
+      running = and-right (physicalFits (c .physical)) _ h₅;
     }
 
 -- ---- a test of each element of a list

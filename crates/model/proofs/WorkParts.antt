@@ -7,27 +7,16 @@ use borrow.Author.Tests.{ltb-true, lt-ltb}
 use Rattle.model.specs.Kinds.{isRead, isProgram, isPageErase, isBankErase}
 use Rattle.model.specs.Places.{totalWords}
 use Rattle.model.specs.Queue.{isEmpty}
+use Rattle.model.specs.State.{operationOf, movedOf}
 use Rattle.model.specs.Rights.{readableWords}
 use Rattle.model.specs.Refusals.{accepts, isDenied}
 use Rattle.model.specs.Checks.{operationAnswer}
 use Rattle.model.specs.Valid.{workFits}
 use Rattle.model.specs.declared.Queue.{Queue}
-use Rattle.model.specs.declared.Operation.{Operation}
 use Rattle.model.specs.declared.Work.{Work}
 use Rattle.model.specs.declared.Work.the-variants.{Read, Program, Erase}
 use Rattle.model.specs.declared.Setup.{Setup}
 use Rattle.model.proofs.Bool.{and-left, and-right}
-
--- The operation, and how many of its words have moved.
-abbrev pub operationOf : Work → Operation
-operationOf (Read o k r) = o
-operationOf (Program o k) = o
-operationOf (Erase o k) = o
-
-abbrev pub movedOf : Work → ℕ
-movedOf (Read o k r) = k
-movedOf (Program o k) = k
-movedOf (Erase o k) = k
 
 -- The work with another number of words moved.
 abbrev pub atWord : Work → ℕ → Work

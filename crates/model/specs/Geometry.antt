@@ -119,6 +119,10 @@ numberInBank d q = q .0 % bankPages d
 abbrev pub isData : ℕ → ImagePage → Bool
 isData d q = ltb (numberInBank d q) d
 
+-- The bank of a bus word of the image: bank 0's words come first.
+abbrev pub bankOfWord : ℕ → BusWord → ℕ
+bankOfWord d w = cond (ltb (w .0) (bankPages d * pageWords)) 0 1
+
 -- A data page's number over both banks, and an information page's among the 26.
 abbrev pub dataPageOf : ℕ → ImagePage → Page
 dataPageOf d q = record { 0 = bankOfPage d q * d + numberInBank d q }

@@ -14,6 +14,8 @@ pub mod Whole
 -- 'Who may touch which page'
 pub mod Rights
 pub mod Host
+-- Change request L1 (02): turns of host and controller
+pub mod Rounds
 -- 'When the desk says no'
 pub mod Refusals
 pub mod Checks

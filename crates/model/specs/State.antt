@@ -17,9 +17,13 @@ use Rattle.model.specs.declared.Settings.{Settings}
 use Rattle.model.specs.declared.Errors.{Errors}
 use Rattle.model.specs.declared.Queue.{Queue}
 use Rattle.model.specs.declared.Queues.{Queues}
+use Rattle.model.specs.declared.Operation.{Operation}
+use Rattle.model.specs.declared.Work.{Work}
+use Rattle.model.specs.declared.Work.the-variants.{Read, Program, Erase}
 use Rattle.model.specs.declared.Progress.{Progress}
 use Rattle.model.specs.declared.Progress.the-variants.{Idle, Running}
 use Rattle.model.specs.declared.Setup.{Setup}
+use Rattle.model.specs.declared.Physical.{Physical}
 use Rattle.model.specs.declared.Controller.{Controller}
 
 -- The flash that a caller lends: the bus words of the image.
@@ -64,6 +68,7 @@ withSetup c s = record {
   errors = c .errors;
   queues = c .queues;
   progress = c .progress;
+  physical = c .physical;
 }
 
 abbrev pub withInputs : Controller → Inputs → Controller
@@ -79,6 +84,7 @@ withPhase c p = record {
   errors = c .errors;
   queues = c .queues;
   progress = c .progress;
+  physical = c .physical;
 }
 
 abbrev pub withErrors : Controller → Errors → Controller
@@ -88,6 +94,7 @@ withErrors c e = record {
   errors = e;
   queues = c .queues;
   progress = c .progress;
+  physical = c .physical;
 }
 
 abbrev pub withQueues : Controller → Queues → Controller
@@ -97,6 +104,7 @@ withQueues c q = record {
   errors = c .errors;
   queues = q;
   progress = c .progress;
+  physical = c .physical;
 }
 
 abbrev pub withProgress : Controller → Progress → Controller
@@ -106,6 +114,17 @@ withProgress c p = record {
   errors = c .errors;
   queues = c .queues;
   progress = p;
+  physical = c .physical;
+}
+
+abbrev pub withPhysical : Controller → Physical → Controller
+withPhysical c p = record {
+  setup = c .setup;
+  phase = c .phase;
+  errors = c .errors;
+  queues = c .queues;
+  progress = c .progress;
+  physical = p;
 }
 
 abbrev pub withReads : Queues → Queue → Queues
@@ -139,6 +158,10 @@ noErrors = record { malformed = false; range = false; window = false; denied = f
 abbrev pub emptyQueues : Queues
 emptyQueues = record { reads = emptyQueue; programs = emptyQueue }
 
+-- Lost counts start at 0 at reset. (02, L1)
+abbrev pub resetPhysical : Physical
+resetPhysical = record { lost = replicate 2 0 }
+
 abbrev pub resetController : ℕ → Controller
 resetController d = record {
   setup = record { pages = d; inputs = inputsOff; settings = settingsOff };
@@ -146,6 +169,7 @@ resetController d = record {
   errors = noErrors;
   queues = emptyQueues;
   progress = Idle;
+  physical = resetPhysical;
 }
 
 -- ---- the phase, and whether an operation is in progress
@@ -158,3 +182,14 @@ isReady Disabled = false
 abbrev pub isBusy : Progress → Bool
 isBusy Idle = false
 isBusy (Running w) = true
+
+-- Of what is in progress: the operation, and how many of its words have moved.
+abbrev pub operationOf : Work → Operation
+operationOf (Read o k readable) = o
+operationOf (Program o k) = o
+operationOf (Erase o k) = o
+
+abbrev pub movedOf : Work → ℕ
+movedOf (Read o k readable) = k
+movedOf (Program o k) = k
+movedOf (Erase o k) = k

@@ -22,6 +22,7 @@ use Rattle.model.specs.declared.Work.the-variants.{Read, Program, Erase}
 use Rattle.model.specs.declared.Progress.{Progress}
 use Rattle.model.specs.declared.Progress.the-variants.{Idle, Running}
 use Rattle.model.specs.declared.Setup.{Setup}
+use Rattle.model.specs.declared.Physical.{Physical}
 use Rattle.model.specs.declared.Controller.{Controller}
 
 -- A test that holds of each element.
@@ -92,6 +93,14 @@ unfoldable pub runningFits : Setup → Queue → Progress → Bool
 runningFits s programs Idle = isEmpty programs
 runningFits s programs (Running w) = workFits s programs w
 
+-- ---- a lost count is at most 5: over 5 isn't ours (02, L1)
+
+abbrev pub lostLimit : ℕ
+lostLimit = 5
+
+unfoldable pub physicalFits : Physical → Bool
+physicalFits p = all (λ n. leb n lostLimit) (p .lost)
+
 -- A state is valid (01: ours) exactly if all of this holds.
 unfoldable pub valid : Controller → Bool
 valid c =
@@ -100,7 +109,8 @@ valid c =
     && (errorsFit (c .errors)
     && (queuesFit (isReady (c .phase)) (c .queues)
     && (progressFits (isReady (c .phase)) (c .progress)
-    && runningFits (c .setup) (c .queues .programs) (c .progress)))))
+    && (physicalFits (c .physical)
+    && runningFits (c .setup) (c .queues .programs) (c .progress))))))
 
 -- Check 1 of a call that is lent the flash: the state is valid, and the flash fits its D.
 unfoldable pub validWith : Controller → Flash → Bool

@@ -26,6 +26,9 @@ pub const MAX_COUNT: u32 = 1024;
 
 pub const QUEUE_WORDS: u32 = 16;
 
+// A lost count is at most this: then the controller goes before the host.
+pub const LOST_LIMIT: u32 = 5;
+
 pub const ERASED: u32 = 0xFFFF_FFFF;
 
 pub const WIDE_PAGE_WORDS: usize = PAGE_WORDS as usize;
@@ -151,6 +154,11 @@ pub struct Setup {
     pub settings: Settings,
 }
 
+// What the flash physical controller keeps (001): for each bank, how often the controller lost its turn to the host.
+pub struct Physical {
+    pub lost: [u32; 2],
+}
+
 // The whole state.
 pub struct Controller {
     pub setup: Setup,
@@ -158,6 +166,7 @@ pub struct Controller {
     pub errors: Errors,
     pub queues: Queues,
     pub progress: Progress,
+    pub physical: Physical,
 }
 
 // ---- what calls hand back
@@ -207,6 +216,39 @@ pub struct Stepped {
     pub answer: Answer,
     pub movement: Movement,
     pub bits: u32,
+}
+
+// What the host asks in a round.
+pub enum HostRequest {
+    Nothing,
+    Word(ByteAddress),
+}
+
+// Of each side of a round: it asked nothing, it waits for its turn, or it was answered by its own call.
+pub enum Turn {
+    Unasked,
+    Waiting,
+    Served,
+}
+
+pub struct HostTurn {
+    pub turn: Turn,
+    pub answer: Answer,
+    pub word: u32,
+}
+
+pub struct StepTurn {
+    pub turn: Turn,
+    pub answer: Answer,
+    pub movement: Movement,
+    pub bits: u32,
+}
+
+// Of a round.
+pub struct Rounded {
+    pub controller: Controller,
+    pub host: HostTurn,
+    pub step: StepTurn,
 }
 
 // The creator and the owner seed, or zeros where none are handed out.

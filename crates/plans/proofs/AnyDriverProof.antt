@@ -10,7 +10,7 @@ use borrow.Author.Tests.{eqb-true}
 use Rattle.model.specs.Kinds.{isRead, isProgram}
 use Rattle.model.specs.Places.{totalWords}
 use Rattle.model.specs.Queue.{emptyQueue}
-use Rattle.model.specs.State.{Flash, withReads, withPrograms}
+use Rattle.model.specs.State.{Flash, withReads, withPrograms, operationOf}
 use Rattle.model.specs.Rights.{readableWords}
 use Rattle.model.specs.Refusals.{accepts, numberOf}
 use Rattle.model.specs.Checks.{operationAnswer}
@@ -23,7 +23,7 @@ use Rattle.model.specs.declared.Controller.{Controller}
 use Rattle.model.specs.declared.Answer.{Answer}
 use Rattle.model.proofs.Bool.{which}
 use Rattle.model.proofs.Places.{moving-words}
-use Rattle.model.proofs.WorkParts.{operationOf, atWord}
+use Rattle.model.proofs.WorkParts.{atWord}
 use Rattle.model.proofs.Free.{whole-free, whole-fits, free-start}
 use Rattle.model.specs.Errors.{withRecorded}
 use Rattle.plans.specs.Plan.{programming, erasing, readsDrained, programsDrained}

@@ -10,7 +10,7 @@ use lib.Dec.{eqb}
 use borrow.Author.Tests.{eqb-true, eqb-false}
 use Rattle.model.specs.Kinds.{isProgram}
 use Rattle.model.specs.Queue.{isEmpty}
-use Rattle.model.specs.State.{Flash, flashFits}
+use Rattle.model.specs.State.{Flash, flashFits, operationOf}
 use Rattle.model.specs.Refusals.{accepts, refused}
 use Rattle.model.specs.Steps.{stalls, push}
 use Rattle.model.specs.declared.Errors.{Errors}
@@ -20,7 +20,7 @@ use Rattle.model.specs.declared.Controller.{Controller}
 use Rattle.model.specs.declared.Answer.{Answer}
 use Rattle.model.specs.declared.Answer.the-variants.{Unexpected}
 use Rattle.model.proofs.Bool.{which}
-use Rattle.model.proofs.WorkParts.{operationOf, atWord}
+use Rattle.model.proofs.WorkParts.{atWord}
 use Rattle.plans.specs.Driver.{Drive, Step, Push, Pop, Driven, stepping, pushing, popping, drives}
 use Rattle.plans.proofs.Running.{wordsOf, stateAt, Begun, Queued, steps-done, steps-wait, pops-none, pushes-unexpected}
 

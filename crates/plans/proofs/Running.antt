@@ -9,7 +9,7 @@ use borrow.Author.Tests.{leb-true, le-leb, eqb-true, eqb-false, eq-eqb, ne-eqb}
 use Rattle.model.specs.Kinds.{isProgram}
 use Rattle.model.specs.Places.{totalWords}
 use Rattle.model.specs.Queue.{isEmpty, pushed, oldest, popped}
-use Rattle.model.specs.State.{Flash, flashFits, isBusy, withErrors, withQueues, withReads, withPrograms}
+use Rattle.model.specs.State.{Flash, flashFits, isBusy, withErrors, withQueues, withReads, withPrograms, operationOf}
 use Rattle.model.specs.Refusals.{numberOf, accepts, readyAnswer, refused}
 use Rattle.model.specs.Checks.{operationAnswer}
 use Rattle.model.specs.Errors.{recorded}
@@ -31,7 +31,7 @@ use Rattle.model.proofs.Bool.{which}
 use Rattle.model.proofs.Places.{moving-words}
 use Rattle.model.proofs.Answers.{ready-accepts}
 use Rattle.model.proofs.Valid.{changed, valid-parts}
-use Rattle.model.proofs.WorkParts.{operationOf, atWord, queuedFits, WorkParts, work-parts, other-word}
+use Rattle.model.proofs.WorkParts.{atWord, queuedFits, WorkParts, work-parts, other-word}
 use Rattle.model.proofs.Accepting.{step-idle, step-stalled, step-advances, push-refused, push-accepted}
 use Rattle.model.proofs.Free.{Free, free-start}
 
@@ -121,6 +121,7 @@ module _ {c : Controller} {es : Errors} {w : Work} {k : ℕ} {q : Queues} (b : B
         le-leb (q .reads .len) 16 (h .reads),
         le-leb (q .programs .len) 16 (h .programs),
         b .free .ready,
+        v .physical,
         running-at,
       )
 

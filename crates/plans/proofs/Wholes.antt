@@ -8,7 +8,7 @@ use lib.ListN.{length, drop}
 use borrow.Author.Tests.{eqb-true, lt-ltb, ltb-false}
 use Rattle.model.specs.Kinds.{isRead, isProgram}
 use Rattle.model.specs.Places.{totalWords}
-use Rattle.model.specs.State.{Flash}
+use Rattle.model.specs.State.{Flash, operationOf}
 use Rattle.model.specs.Rights.{readableWords}
 use Rattle.model.specs.Refusals.{accepts, numberOf}
 use Rattle.model.specs.Checks.{operationAnswer}
@@ -22,7 +22,7 @@ use Rattle.model.specs.declared.Controller.{Controller}
 use Rattle.model.proofs.Places.{moving-words}
 use Rattle.model.proofs.Order.{pages-bound}
 use Rattle.model.proofs.Valid.{valid-parts}
-use Rattle.model.proofs.WorkParts.{operationOf, atWord}
+use Rattle.model.proofs.WorkParts.{atWord}
 use Rattle.model.proofs.Starting.{recorded-fits, starts-well, first-word, read-starts, program-starts, erase-starts}
 use Rattle.model.proofs.Free.{whole-free, whole-fits, free-start}
 use Rattle.model.specs.Errors.{withRecorded}

@@ -33,7 +33,7 @@ use Rattle.plans.proofs.Changes.{WholeChanges, same, programs, erases, whole-ch
 use Rattle.promises.specs.Calls.{Call, State, perform}
 use Rattle.promises.specs.Confined.{protected, wordsOf, isRma, Confined}
 use Rattle.promises.proofs.Validity.{call-keeps}
-use Rattle.promises.proofs.FlashLaws.{Touches, same, steps, runs, wipes, flash-touched}
+use Rattle.promises.proofs.FlashLaws.{Touches, same, steps, runs, wipes, rounds, flash-touched}
 
 -- ---- a page that may be changed is not protected
 
@@ -131,6 +131,8 @@ call-confined s q h guard steps =
 call-confined s q h guard (runs o b) =
     whole-confined (s .controller) (s .flash) o _ q h (and-left (protected (s .controller .setup) q) _ guard) (whole-changes _ _ o _)
 call-confined s q h guard wipes = absurd (true≢false (sym (and-right (protected (s .controller .setup) q) _ guard)))
+call-confined s q h guard (rounds e) =
+    rw e (step-confined (s .controller) (s .flash) q h (and-left (protected (s .controller .setup) q) _ guard) (step-leaves _ _))
 
 -- Call by call.
 pub confined : Confined

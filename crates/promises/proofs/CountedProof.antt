@@ -8,10 +8,15 @@ use lib.Dec.{eqb}
 use lib.ListN.{length, length-set}
 use borrow.Author.Tests.{eqb-true, eqb-false, eq-eqb, lt-ltb}
 use Rattle.model.specs.Places.{totalWords}
-use Rattle.model.specs.State.{Flash, Leaves}
+use Rattle.model.specs.State.{Flash, Leaves, operationOf, movedOf}
 use Rattle.model.specs.Refusals.{numberOf, accepts, readyAnswer}
 use Rattle.model.specs.Valid.{valid, validWith}
 use Rattle.model.specs.Steps.{progressed, movement, moved, stalls, advance, still, stepProgress, step, push, pop}
+use Rattle.model.specs.Host.{hostRead}
+use Rattle.model.specs.Rounds.{round}
+use Rattle.model.specs.declared.ByteAddress.{ByteAddress}
+use Rattle.model.specs.declared.HostRequest.{HostRequest}
+use Rattle.model.specs.declared.HostRequest.the-variants.{Nothing, Word}
 use Rattle.model.specs.declared.Answer.{Answer}
 use Rattle.model.specs.declared.Answer.the-variants.{Accepted, Unexpected}
 use Rattle.model.specs.declared.Queues.{Queues}
@@ -24,11 +29,11 @@ use Rattle.model.specs.declared.Progress.{Progress}
 use Rattle.model.specs.declared.Progress.the-variants.{Idle, Running}
 use Rattle.model.specs.declared.Controller.{Controller}
 use Rattle.model.proofs.Bool.{by-test}
-use Rattle.model.proofs.WorkParts.{operationOf, movedOf}
 use Rattle.model.proofs.Flashes.{same-fits}
 use Rattle.model.proofs.Moving.{busy-parts, with-valid, with-fits}
 use Rattle.model.proofs.StepLaws.{advance-accepts, step-ready, step-unready, busy-steps}
-use Rattle.promises.specs.Calls.{Call, State, Shaped, Step, Push, Pop, perform, replies}
+use Rattle.model.proofs.Rounds.{BothAsked, host, instead, both, both-asked}
+use Rattle.promises.specs.Calls.{Call, State, Shaped, Step, Push, Pop, Round, perform, replies}
 use Rattle.promises.specs.Counted as driving
 use Rattle.promises.specs.Counted.{leftOf, wordsLeft, countedBy, leftAfter, counted, ExactlyItsWords, MovesOrWaits}
 use Rattle.promises.proofs.Validity.{call-keeps}
@@ -99,7 +104,7 @@ moves-or-waits s w shaped h e =
       λ t. rw (go, t) (refl, refl, refl),
     )
 
--- ---- steps, pushes and pops
+-- ---- steps, pushes, pops and rounds
 
 -- A driving call keeps D and the image's length, and tells what is left.
 record Tells (s : State) (k : Call) : Type 0 where
@@ -163,6 +168,27 @@ step-tells : (s : State) (p : Progress) → s .controller .progress ≡ p → va
 step-tells s Idle e h = idle-tells s e
 step-tells s (Running w) e h = busy-tells s w e h
 
+-- Of a call that leaves and tells of what is in progress what a step does.
+like-step : (s : State) (k : Call) → perform s k .state .controller .setup .pages ≡ perform s Step .state .controller .setup .pages
+    → perform s k .state .flash ≡ perform s Step .state .flash
+    → wordsLeft (perform s k .state .controller) ≡ wordsLeft (perform s Step .state .controller)
+    → perform s k .reply .movement ≡ perform s Step .reply .movement → Tells s Step → Tells s k
+like-step s k d f w m t = record { pages = d ∙ t .pages; long = rw f (t .long); counts = rw m (t .counts); after = rw (m, w) (t .after) }
+
+-- Of a round, whose step is asked or not, and waits or not.
+both-tells : (s : State) {a : ByteAddress} → BothAsked (s .controller) (s .flash) a → Tells s Step → Tells s (Round (Word a) true)
+unfolding perform hostRead
+both-tells s (host x few e) t = record { pages = rw e; long = rw e; counts = rw e; after = rw e }
+both-tells s (instead x many e) t = like-step s _ (rw e) (rw e) (rw e) (rw e) t
+both-tells s (both x e) t = like-step s _ (rw e) (rw e) (rw e) (rw e) t
+
+round-tells : (s : State) (h : HostRequest) (b : Bool) → Tells s Step → Tells s (Round h b)
+unfolding perform round hostRead
+round-tells s Nothing false t = record { pages = refl; long = refl; counts = refl; after = refl }
+round-tells s Nothing true t = like-step s (Round Nothing true) refl refl refl refl t
+round-tells s (Word a) false t = record { pages = refl; long = refl; counts = refl; after = refl }
+round-tells s (Word a) true t = both-tells s (both-asked (s .controller) (s .flash) a) t
+
 -- ---- lists of them
 
 -- What is counted of one call and of the rest is counted of both.
@@ -198,3 +224,5 @@ exactly-its-words s _ shaped h (driving.push {w} {ks} d) =
     one-more s (Push w) ks shaped h (push-tells s w) (λ n x y. exactly-its-words n ks x y d)
 exactly-its-words s _ shaped h (driving.pop {ks} d) =
     one-more s Pop ks shaped h (pop-tells s) (λ n x y. exactly-its-words n ks x y d)
+exactly-its-words s _ shaped h (driving.round {h = r} {b} {ks} d) =
+    one-more s (Round r b) ks shaped h (round-tells s r b (step-tells s (s .controller .progress) refl h)) (λ n x y. exactly-its-words n ks x y d)

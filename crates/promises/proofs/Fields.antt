@@ -8,7 +8,7 @@ use Rattle.model.specs.Geometry.{pagesFit}
 use Rattle.model.specs.State.{isReady, isBusy}
 use Rattle.model.specs.Queue.{isEmpty}
 use Rattle.model.specs.Refusals.{accepts, settle}
-use Rattle.model.specs.Valid.{all, rightsFit, regionFits, pageFits, settingsFit, errorsFit, bothEmpty, progressFits, runningFits, valid}
+use Rattle.model.specs.Valid.{all, rightsFit, regionFits, pageFits, settingsFit, errorsFit, bothEmpty, progressFits, physicalFits, runningFits, valid}
 use Rattle.model.specs.declared.Phase.{Phase}
 use Rattle.model.specs.declared.Settings.{Settings}
 use Rattle.model.specs.declared.Errors.{Errors}
@@ -17,6 +17,7 @@ use Rattle.model.specs.declared.Queues.{Queues}
 use Rattle.model.specs.declared.Progress.{Progress}
 use Rattle.model.specs.declared.Progress.the-variants.{Idle, Running}
 use Rattle.model.specs.declared.Setup.{Setup}
+use Rattle.model.specs.declared.Physical.{Physical}
 use Rattle.model.specs.declared.Answer.{Answer}
 use Rattle.model.specs.declared.Controller.{Controller}
 use Rattle.model.proofs.Bool.{and-left, and-right, by-test}
@@ -37,6 +38,11 @@ pub record ValidQueue (q : Queue) : Type 0 where
   pub places : length (q .words) ≡ 16
   pub holds : q .len ≤ 16
 
+-- A lost count for each of the two banks, none over 5.
+pub record ValidPhysical (p : Physical) : Type 0 where
+  pub places : length (p .lost) ≡ 2
+  pub fits : physicalFits p ≡ true
+
 -- A state that is valid, its arrays as long as their types say. Closed: no word is queued unless it is ready.
 pub record Valid (c : Controller) : Type 0 where
   pub pages : pagesFit (c .setup .pages) ≡ true
@@ -46,6 +52,7 @@ pub record Valid (c : Controller) : Type 0 where
   pub programs : ValidQueue (c .queues .programs)
   pub closed : (isReady (c .phase) || bothEmpty (c .queues)) ≡ true
   pub progress : progressFits (isReady (c .phase)) (c .progress) ≡ true
+  pub physical : ValidPhysical (c .physical)
   pub running : runningFits (c .setup) (c .queues .programs) (c .progress) ≡ true
 
 module _ (c : Controller) where
@@ -70,6 +77,7 @@ module _ (c : Controller) where
         programs = record { places = s .programs; holds = v .programs };
         closed = v .closed;
         progress = v .progress;
+        physical = record { places = s .lost; fits = v .physical };
         running = v .running;
       }
 
@@ -83,6 +91,7 @@ module _ (c : Controller) where
       erase = v .settings .erase-places;
       reads = v .reads .places;
       programs = v .programs .places;
+      lost = v .physical .places;
     },
     rw (
       v .pages,
@@ -94,6 +103,7 @@ module _ (c : Controller) where
       le-leb (c .queues .programs .len) 16 (v .programs .holds),
       v .closed,
       v .progress,
+      v .physical .fits,
       v .running,
     ),
   )
@@ -110,6 +120,7 @@ ready-keeps c ph e q p v r f qr qp w = record {
   programs = qp;
   closed = rw r;
   progress = rw r;
+  physical = v .physical;
   running = w;
 }
 

@@ -10,17 +10,22 @@ use Rattle.model.specs.Queue.{held, queueOf, pushed, oldest, popped}
 use Rattle.model.specs.State.{flash, flashFits, resetController}
 use Rattle.model.specs.Rights.{dataRights, rightsAt, rightsOfPage, leading, allowedWords, denied, readableWords}
 use Rattle.model.specs.Checks.{malformed, outOfRange, crossesWindow, operationAnswer}
-use Rattle.model.specs.Valid.{settingsFit, workFits, runningFits, valid, validWith}
+use Rattle.model.specs.Valid.{settingsFit, workFits, runningFits, physicalFits, valid, validWith}
 use Rattle.model.specs.Errors.{recorded}
 use Rattle.model.specs.Settings.{configured, setRegion}
 use Rattle.model.specs.Lifecycle.{initialiseAnswer, initialise}
-use Rattle.model.specs.Steps.{startAnswer, start, pushAnswer, push, popAnswer, pop, stalls, advance, stepProgress, step}
+use Rattle.model.specs.Steps.{startAnswer, start, pushAnswer, push, popAnswer, pop, stalls, delivered, advance, stepProgress, step}
 use Rattle.model.specs.Whole.{turn, turns, wholeAnswer, drive, whole}
+use Rattle.model.specs.Refusals.{numberOf}
+use Rattle.model.specs.Host.{hostAnswer, hostRead}
+use Rattle.model.specs.Rounds.{wouldMove, nextBank, hostBank, competes, round}
 use Rattle.model.specs.Bench.{region, op}
 use Rattle.model.specs.declared.Operation.{Operation}
 use Rattle.model.specs.declared.Work.the-variants.{Read}
 use Rattle.model.specs.declared.Progress.the-variants.{Running}
-use Rattle.promises.specs.Calls.{Call, State, Shaped, SetRegion, Initialise, Start, Step, Push, Whole, perform, run}
+use Rattle.model.specs.declared.HostRequest.the-variants.{Nothing, Word}
+use Rattle.model.specs.declared.Turn.the-variants.{Waiting}
+use Rattle.promises.specs.Calls.{Call, State, Shaped, SetRegion, Initialise, Start, Step, Push, Whole, Round, perform, run}
 use Rattle.promises.specs.Confined.{protected, erasable, programmable, unerasedAlong, unprogrammedAlong, protectedAlong, bitOf}
 use Rattle.promises.specs.Counted.{wordsLeft}
 use Rattle.promises.specs.Unknown.{stateOf}
@@ -71,6 +76,13 @@ pub record Met : Type 0 where
   pub high : bitOf (run afterReset (calls erase ++ (Step ∷ [])) .flash) (record { 0 = 0 }) 0 ≡ 1
   -- `RefusedMovesNothing`, `RefusedUnknown`: a second start is refused
   pub refused : perform (reached erase) (Start read) .reply .answer ≡ 4
+  -- a round's step erases as well, and is refused where nothing is in progress, beside a host read that is accepted
+  pub high-by-round : bitOf (run afterReset (calls erase ++ (Round Nothing true ∷ [])) .flash) (record { 0 = 0 }) 0 ≡ 1
+  pub refused-step : perform (run afterReset opening) (Round (Word (record { 0 = 4 })) true) .reply .answer ≡ 12
+  pub host-beside : perform (run afterReset opening) (Round (Word (record { 0 = 4 })) true) .reply .host .word ≡ allOnes
+  -- `RefusedHostServed`, `RefusedHostUnknown`: a host read of address 1 is refused, and the step waits for it
+  pub refused-host : numberOf (perform (reached erase) (Round (Word (record { 0 = 1 })) true) .reply .host .answer) ≡ 5
+  pub step-waits : perform (reached erase) (Round (Word (record { 0 = 1 })) true) .reply .turn ≡ Waiting
   -- a pushed word is the one that a step programs
   pub stores : getD (run (reached program) (Push 5 ∷ Step ∷ []) .flash .words) 1 0 ≡ 5
   -- whole operations: the buffer's word is programmed, the 0 bit becomes 1, the denied read puts ones into its one place
@@ -82,9 +94,9 @@ pub record Met : Type 0 where
   pub blank : reached read .controller .progress ≡ Running (Read read 0 0)
 
 pub met : Met
-unfolding imagePage wordAt programmed totalWords placeOf held queueOf pushed oldest popped leading dataRights rightsAt allowedWords denied readableWords malformed outOfRange crossesWindow operationAnswer settingsFit workFits runningFits valid flashFits validWith recorded configured setRegion initialiseAnswer initialise startAnswer start pushAnswer push stalls advance stepProgress step popAnswer pop turn turns wholeAnswer drive whole perform rightsOfPage protected erasable programmable
+unfolding imagePage wordAt programmed totalWords placeOf held queueOf pushed oldest popped leading dataRights rightsAt allowedWords denied readableWords malformed outOfRange crossesWindow operationAnswer settingsFit workFits runningFits physicalFits valid flashFits validWith recorded configured setRegion initialiseAnswer initialise startAnswer start pushAnswer push stalls advance stepProgress step popAnswer pop delivered turn turns wholeAnswer drive whole hostAnswer hostRead wouldMove nextBank hostBank competes round perform rightsOfPage protected erasable programmable
 met = record {
-  shaped = record { regions = refl; info = refl; erase = refl; reads = refl; programs = refl };
+  shaped = record { regions = refl; info = refl; erase = refl; reads = refl; programs = refl; lost = refl };
   begins-valid = refl;
   guarded = refl;
   unerased = refl;
@@ -96,6 +108,11 @@ met = record {
   low = refl;
   high = refl;
   refused = refl;
+  high-by-round = refl;
+  refused-step = refl;
+  host-beside = refl;
+  refused-host = refl;
+  step-waits = refl;
   stores = refl;
   whole-stores = refl;
   whole-high = refl;

@@ -11,7 +11,7 @@ use Rattle.model.specs.State.{Flash, noErrors, resetController, withErrors, wit
 use Rattle.model.specs.Refusals.{check}
 use Rattle.model.specs.Errors.{clear}
 use Rattle.model.specs.Lifecycle.{reset, isDisabled, initialiseAnswer, initialise, rmaAnswer, rmaController, rma}
-use Rattle.model.specs.Valid.{validWith, valid, runningFits}
+use Rattle.model.specs.Valid.{validWith, valid, physicalFits, runningFits}
 use Rattle.model.specs.declared.Phase.the-variants as phase
 use Rattle.model.specs.declared.Controller.{Controller}
 use Rattle.model.specs.declared.Answer.the-variants.{Invalid, Disabled, Busy}
@@ -25,7 +25,7 @@ empty-queue = record { places = refl; holds = omega arith }
 
 -- A controller after reset is valid, for each D that fits.
 pub reset-valid : (d : ℕ) → pagesFit d ≡ true → Valid (resetController d)
-unfolding queueOf runningFits
+unfolding queueOf physicalFits runningFits
 reset-valid d h = record {
   pages = h;
   settings = record {
@@ -41,6 +41,7 @@ reset-valid d h = record {
   programs = empty-queue;
   closed = refl;
   progress = refl;
+  physical = record { places = refl; fits = refl };
   running = refl;
 }
 
@@ -72,6 +73,7 @@ module _ (c : Controller) (v : Valid c) where
         programs = empty-queue;
         closed = refl;
         progress = rw idle;
+        physical = v .physical;
         running = empty-idle (c .setup) (rmaController c .queues .programs) (c .progress) idle refl;
       }
 
@@ -86,5 +88,6 @@ module _ (c : Controller) (v : Valid c) where
     programs = v .programs;
     closed = v .closed;
     progress = v .progress;
+    physical = v .physical;
     running = v .running;
   }

@@ -44,6 +44,7 @@ module _ (c : Controller) (v : Valid c) where
         programs = v .programs;
         closed = v .closed;
         progress = v .progress;
+        physical = v .physical;
         running = empty-idle (withBoth c i s .setup) (c .queues .programs) (c .progress) idle (idle-empty (c .setup) _ (c .progress) idle (v .running));
       }
 

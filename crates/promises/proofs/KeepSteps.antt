@@ -7,7 +7,7 @@ use lib.Dec.{eqb}
 use borrow.Author.Tests.{leb-true, leb-false, le-leb, eqb-true, eqb-false, eq-eqb}
 use Rattle.model.specs.Places.{totalWords}
 use Rattle.model.specs.Queue.{isEmpty, popped}
-use Rattle.model.specs.State.{Flash, isReady, withPrograms}
+use Rattle.model.specs.State.{Flash, isReady, withPrograms, operationOf, movedOf}
 use Rattle.model.specs.Refusals.{accepts, readyAnswer}
 use Rattle.model.specs.Steps.{stalls, progressed, moved, advance, stepProgress, step}
 use Rattle.model.specs.Valid.{validWith, workFits, runningFits}
@@ -23,7 +23,7 @@ use Rattle.model.proofs.Bool.{by-test}
 use Rattle.model.proofs.Places.{moving-words}
 use Rattle.model.proofs.QueueLaws.{pop-takes-one}
 use Rattle.model.proofs.Answers.{ready-passed}
-use Rattle.model.proofs.WorkParts.{operationOf, movedOf, atWord, queuedFits, work-parts, other-word}
+use Rattle.model.proofs.WorkParts.{atWord, queuedFits, work-parts, other-word}
 use Rattle.promises.proofs.Fields.{Valid, ValidQueue, ready-keeps}
 use Rattle.promises.proofs.KeepQueues.{pushed-valid, popped-valid}
 

@@ -8,6 +8,7 @@ pub mod KeepQueues
 pub mod KeepSteps
 pub mod KeepStart
 pub mod KeepWholes
+pub mod KeepRounds
 pub mod Validity
 -- the others
 pub mod FlashLaws

@@ -33,7 +33,7 @@ use Rattle.plans.proofs.Changes.{WholeChanges, same, programs, erases, whole-ch
 use Rattle.promises.specs.Calls.{Call, State, perform}
 use Rattle.promises.specs.Confined.{isRma, erasable, programmable, NoneRises, NoneFalls}
 use Rattle.promises.proofs.Validity.{call-keeps}
-use Rattle.promises.proofs.FlashLaws.{Touches, same, steps, runs, wipes, flash-touched}
+use Rattle.promises.proofs.FlashLaws.{Touches, same, steps, runs, wipes, rounds, flash-touched}
 use Rattle.promises.proofs.RisesProof.{programmed-zero}
 use Rattle.promises.proofs.ConfinedProof.{program-needs, page-erase-needs, span-grants}
 
@@ -140,6 +140,8 @@ call-keeps-word Q place s h program erase wipe steps q = step-keeps Q place (s .
 call-keeps-word Q place s h program erase wipe (runs o b) q =
     whole-keeps Q place (s .controller) h program erase (s .flash) o _ (whole-changes _ _ o _) q
 call-keeps-word Q place s h program erase wipe wipes q = rma-keeps Q place (s .controller) (s .flash) (wipe refl) q
+call-keeps-word Q place s h program erase wipe (rounds e) q =
+    rw e (step-keeps Q place (s .controller) h program erase (s .flash) (step-leaves _ _) q)
 
 -- ---- any list of calls
 

@@ -1,6 +1,6 @@
 -- A refused call moves nothing. Assumes nothing.
-use mathlib.Core.Path.{_≡_, refl, sym}
-use mathlib.Core.Bool.{false, _&&_, cond}
+use mathlib.Core.Path.{_≡_, refl, sym, ap}
+use mathlib.Core.Bool.{true, false, _&&_, cond}
 use Rattle.model.specs.Kinds.{isRead}
 use Rattle.model.specs.State.{isBusy}
 use Rattle.model.specs.Refusals.{numberOf, accepts, isDenied}
@@ -10,16 +10,21 @@ use Rattle.model.specs.Errors.{clear}
 use Rattle.model.specs.Settings.{setInputs, configured, setRegion, setDefault, setInfo, setErase}
 use Rattle.model.specs.Lifecycle.{reset, initialise, rma}
 use Rattle.model.specs.Steps.{startAnswer, progressAfter, started, start, push, pop}
-use Rattle.model.specs.Host.{hostRead, view}
+use Rattle.model.specs.Host.{hostAnswer, hostRead, view}
+use Rattle.model.specs.Rounds.{round}
+use Rattle.model.specs.declared.ByteAddress.{ByteAddress}
 use Rattle.model.specs.declared.Operation.{Operation}
 use Rattle.model.specs.declared.Work.the-variants.{Read}
 use Rattle.model.specs.declared.Progress.the-variants.{Running}
 use Rattle.model.specs.declared.Controller.{Controller}
+use Rattle.model.specs.declared.HostRequest.the-variants.{Nothing, Word}
+use Rattle.model.specs.declared.Turn.the-variants.{Served}
 use Rattle.model.proofs.Bool.{by-test}
 use Rattle.model.proofs.Answers.{accepts-not, unrecorded}
 use Rattle.model.proofs.StepLaws.{blank-work, start-goes-on, start-stops, step-refused}
-use Rattle.promises.specs.Calls.{Reset, SetInputs, SetRegion, SetDefault, SetInfo, SetErase, Initialise, Start, Step, Push, Pop, Whole, HostRead, ViewPage, Clear, Rma, perform}
-use Rattle.promises.specs.Refused.{leftBy, RefusedMovesNothing}
+use Rattle.model.proofs.Rounds.{BothAsked, host, instead, both, both-asked, competes-goes, goes-accepted}
+use Rattle.promises.specs.Calls.{State, Reset, SetInputs, SetRegion, SetDefault, SetInfo, SetErase, Initialise, Start, Step, Push, Pop, Whole, HostRead, ViewPage, Clear, Rma, Round, perform}
+use Rattle.promises.specs.Refused.{leftBy, Leaves, RefusedMovesNothing, RefusedHostServed}
 use Rattle.promises.proofs.Unrecorded.{start-unrecorded}
 use Rattle.promises.proofs.RefusedWholes.{whole-left}
 
@@ -48,9 +53,19 @@ start-left c o h =
     (λ e. let go = start-goes-on c o e in rw go (started-left c o (accepts-not (operationAnswer (c .setup) o) (rw go at h))))
     (λ e. rw (start-stops c o e) (stopped-left c o))
 
+-- A refused step does not compete, so a round of both leaves and tells what the step and the host read by themselves do.
+both-left : (s : State) {a : ByteAddress} → BothAsked (s .controller) (s .flash) a
+    → (perform s (Round (Word a) true) .reply .answer ≡ 0 → ⊥) → Leaves s (Round (Word a) true)
+unfolding perform hostRead
+both-left s (host t few e) h = absurd (h (rw e))
+both-left s {a} (instead t many e) h =
+    absurd (h (rw e (ap numberOf (goes-accepted (s .controller) (s .flash) (competes-goes (s .controller) (s .flash) a t)))))
+both-left s (both t e) h =
+    let r = step-refused (s .controller) (s .flash) (rw e at h) in record { flash = rw (e, r); controller = rw (e, r); reply = rw (e, r) }
+
 -- Every refused call leaves what the table says.
 pub refused-moves-nothing : RefusedMovesNothing
-unfolding perform reset setInputs configured setRegion setDefault setInfo setErase initialise push pop hostRead view clear rma
+unfolding perform reset setInputs configured setRegion setDefault setInfo setErase initialise push pop hostRead view clear rma round
 refused-moves-nothing s (Reset d) h = record { flash = refl; controller = rw (accepts-not _ h); reply = refl }
 refused-moves-nothing s (SetInputs i) h = record { flash = refl; controller = rw (accepts-not _ h); reply = refl }
 refused-moves-nothing s (SetRegion n g) h = record { flash = refl; controller = rw (accepts-not _ h); reply = refl }
@@ -69,3 +84,24 @@ refused-moves-nothing s (HostRead a) h = record { flash = refl; controller = ref
 refused-moves-nothing s (ViewPage p) h = record { flash = refl; controller = refl; reply = rw (accepts-not _ h) }
 refused-moves-nothing s Clear h = record { flash = refl; controller = rw (accepts-not _ h); reply = refl }
 refused-moves-nothing s Rma h = record { flash = rw (accepts-not _ h); controller = rw (accepts-not _ h); reply = refl }
+refused-moves-nothing s (Round Nothing false) h = absurd (h refl)
+refused-moves-nothing s (Round Nothing true) h =
+    let e = step-refused (s .controller) (s .flash) h in record { flash = rw e; controller = rw e; reply = rw e }
+refused-moves-nothing s (Round (Word a) false) h = absurd (h refl)
+refused-moves-nothing s (Round (Word a) true) h = both-left s (both-asked (s .controller) (s .flash) a) h
+
+-- A refused host read uses its turn, beside a step too.
+both-served : (s : State) {a : ByteAddress} → BothAsked (s .controller) (s .flash) a
+    → (numberOf (perform s (Round (Word a) true) .reply .host .answer) ≡ 0 → ⊥)
+    → (perform s (Round (Word a) true) .reply .host .turn ≡ Served) × (perform s (Round (Word a) true) .reply .host .word ≡ 0)
+unfolding perform hostRead
+both-served s {a} (host t few e) h = let n = accepts-not (hostAnswer (s .controller) (s .flash) a) (rw e at h) in (rw e, rw (e, n))
+both-served s (instead t many e) h = absurd (h (rw e))
+both-served s {a} (both t e) h = let n = accepts-not (hostAnswer (s .controller) (s .flash) a) (rw e at h) in (rw e, rw (e, n))
+
+pub refused-host-served : RefusedHostServed
+unfolding perform round hostRead
+refused-host-served s Nothing false h = absurd (h refl)
+refused-host-served s Nothing true h = absurd (h refl)
+refused-host-served s (Word a) false h = (refl, rw (accepts-not _ h))
+refused-host-served s (Word a) true h = both-served s (both-asked (s .controller) (s .flash) a) h

@@ -28,7 +28,7 @@ use Rattle.plans.proofs.Firsts.{storedFirst}
 use Rattle.plans.proofs.Changes.{WholeChanges, same, programs, erases, whole-changes}
 use Rattle.promises.specs.Calls.{Call, State, perform}
 use Rattle.promises.specs.Confined.{bitOf, stepErases, hasWordAt, wholeErases, erasesPlace, RisesByErase}
-use Rattle.promises.proofs.FlashLaws.{Touches, same, steps, runs, wipes, flash-touched}
+use Rattle.promises.proofs.FlashLaws.{Touches, same, steps, runs, wipes, rounds, flash-touched}
 
 -- A bit is not both 0 and 1.
 never : {b : ℕ} → b ≡ 0 → b ≡ 1 → ⊥
@@ -114,6 +114,7 @@ call-rises s place bit (same e) h i = absurd (never h (rw e at i))
 call-rises s place bit steps h i = step-rises (s .controller) (s .flash) place bit (step-leaves _ _) h i
 call-rises s place bit (runs o b) h i = whole-rises (s .controller) (s .flash) o _ place bit (whole-changes _ _ o _) h i
 call-rises s place bit wipes h i = rma-rises (s .controller) (s .flash) place bit h i
+call-rises s place bit (rounds e) h i = step-rises (s .controller) (s .flash) place bit (step-leaves _ _) h (rw e at i)
 
 pub rises-by-erase : RisesByErase
 rises-by-erase s k place bit h i = call-rises s place bit (flash-touched s k) h i

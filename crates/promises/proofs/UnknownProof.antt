@@ -1,27 +1,35 @@
 -- Denied words stay unknown. Assumes nothing.
 use Prim.Native.Nat.{ℕ, _≤_}
 use mathlib.Core.Path.{_≡_, refl, sym, ap, _∙_}
+use mathlib.Core.Bool.{Bool, true, false}
+use lib.Dec.{ltb}
 use lib.ListN.{length}
 use borrow.Author.Tests.{le-ltb}
 use native.Mathlib.Omega.{arith}
-use Rattle.model.specs.State.{Flash}
+use Rattle.model.specs.State.{Flash, Leaves}
 use Rattle.model.specs.Refusals.{numberOf, accepts, readyAnswer}
-use Rattle.model.specs.Valid.{validWith}
+use Rattle.model.specs.Valid.{lostLimit, validWith}
 use Rattle.model.specs.Lifecycle.{initialiseAnswer, initialise, rmaAnswer, rma}
 use Rattle.model.specs.Steps.{stalls, advance, stepProgress, step}
 use Rattle.model.specs.Host.{hostAnswer, hostRead, viewAnswer, view}
+use Rattle.model.specs.Rounds.{wouldMove, nextBank, competes, lostIn, hostServed, hostGoes, stepGoes, bothGo, round}
+use Rattle.model.specs.declared.ByteAddress.{ByteAddress}
 use Rattle.model.specs.declared.Progress.{Progress}
 use Rattle.model.specs.declared.Operation.{Operation}
 use Rattle.model.specs.declared.Work.the-variants.{Read}
 use Rattle.model.specs.declared.Progress.the-variants.{Idle, Running}
 use Rattle.model.specs.declared.Controller.{Controller}
+use Rattle.model.specs.declared.HostRequest.{HostRequest}
+use Rattle.model.specs.declared.HostRequest.the-variants.{Nothing, Word}
+use Rattle.model.specs.declared.Rounded.{Rounded}
 use Rattle.model.proofs.Bool.{by-test}
+use Rattle.model.proofs.Answers.{accepts-not}
 use Rattle.model.proofs.Flashes.{same-fits}
 use Rattle.model.proofs.StepLaws.{step-ready, step-unready, running-accepts}
 use Rattle.plans.proofs.Changes.{whole-answers}
-use Rattle.promises.specs.Calls.{Call, Reset, SetInputs, SetRegion, SetDefault, SetInfo, SetErase, Initialise, Start, Step, Push, Pop, Whole, HostRead, ViewPage, Clear, Rma, perform}
+use Rattle.promises.specs.Calls.{Call, State, Reset, SetInputs, SetRegion, SetDefault, SetInfo, SetErase, Initialise, Start, Step, Push, Pop, Whole, HostRead, ViewPage, Clear, Rma, Round, byRound, perform}
 use Rattle.promises.specs.Refused.{leftBy, refusedReply}
-use Rattle.promises.specs.Unknown.{stateOf, RefusedUnknown, BlankUnknown}
+use Rattle.promises.specs.Unknown.{stateOf, stepSide, Alike, RefusedUnknown, RefusedHostUnknown, BlankUnknown}
 use Rattle.promises.proofs.RefusedProof.{refused-moves-nothing}
 
 -- ---- on two images of the same length
@@ -44,9 +52,25 @@ module _ (c : Controller) (f g : Flash) (long : length (f .words) ≡ length (g 
       (λ e. rw (step-ready c f (rw same-valid e) refl, step-ready c g e refl) (progress-answer (c .progress)))
       (λ e. rw (step-unready c f (rw same-valid e), step-unready c g e, same-valid))
 
-  -- and every call.
+  -- so the same sides compete, and a round of both goes the same way,
+  same-competes : (a : ByteAddress) → competes c f a ≡ competes c g a
+  unfolding competes wouldMove
+  same-competes a = rw same-valid
+
+  by-both : (P : Leaves Rounded → Leaves Rounded → Type 0) (a : ByteAddress) → P (hostGoes c f a) (hostGoes c g a)
+      → P (stepGoes c f) (stepGoes c g) → P (bothGo c f a) (bothGo c g a) → P (round c f (Word a) true) (round c g (Word a) true)
+  unfolding round
+  by-both P a host instead both =
+      by-test (competes c g a)
+      (λ t.
+      by-test (ltb (lostIn c (nextBank c)) lostLimit)
+      (λ u. rw (same-competes a, t, u) host)
+      (λ u. rw (same-competes a, t, u) instead))
+      (λ t. rw (same-competes a, t) both)
+
+  -- and every call answers the same.
   same-answer : (k : Call) → perform (stateOf c f) k .reply .answer ≡ perform (stateOf c g) k .reply .answer
-  unfolding perform initialise initialiseAnswer rma rmaAnswer hostRead hostAnswer view viewAnswer
+  unfolding perform initialise initialiseAnswer rma rmaAnswer hostRead hostAnswer view viewAnswer round
   same-answer (Reset d) = refl
   same-answer (SetInputs i) = refl
   same-answer (SetRegion n r) = refl
@@ -63,17 +87,56 @@ module _ (c : Controller) (f g : Flash) (long : length (f .words) ≡ length (g 
   same-answer (ViewPage p) = rw same-valid
   same-answer Clear = refl
   same-answer Rma = rw same-valid
+  same-answer (Round Nothing false) = refl
+  same-answer (Round Nothing true) = ap numberOf step-answer
+  same-answer (Round (Word a) false) = refl
+  same-answer (Round (Word a) true) =
+      by-both (λ x y. numberOf (x .result .step .answer) ≡ numberOf (y .result .step .answer)) a refl (ap numberOf step-answer) (ap numberOf step-answer)
 
--- What a refused call leaves and tells follows from its answer.
+  -- A refused host read tells the same.
+  host-unknown : (a : ByteAddress) → (numberOf (hostRead c f a .answer) ≡ 0 → ⊥) → hostServed (hostRead c f a) ≡ hostServed (hostRead c g a)
+  unfolding hostRead hostAnswer
+  host-unknown a h = let n = accepts-not (hostAnswer c g a) (rw same-valid at h) in rw (same-valid, n)
+
+-- What a refused call leaves and tells follows from its answer, but for the host's side of a round.
+side-told : (s u : State) (k : Call) (n : ℕ) → stepSide (refusedReply s k n) ≡ stepSide (refusedReply u k n)
+side-told s u (Reset d) n = refl
+side-told s u (SetInputs i) n = refl
+side-told s u (SetRegion k r) n = refl
+side-told s u (SetDefault r) n = refl
+side-told s u (SetInfo bank t page p) n = refl
+side-told s u (SetErase bank on) n = refl
+side-told s u Initialise n = refl
+side-told s u (Start o) n = refl
+side-told s u Step n = refl
+side-told s u (Push w) n = refl
+side-told s u Pop n = refl
+side-told s u (Whole o b) n = refl
+side-told s u (HostRead a) n = refl
+side-told s u (ViewPage p) n = refl
+side-told s u Clear n = refl
+side-told s u Rma n = refl
+side-told s u (Round h b) n = refl
+
 pub refused-unknown : RefusedUnknown
 refused-unknown c f g k long h =
     let same = same-answer c f g long k in
     let here = refused-moves-nothing (stateOf c f) k h in
     let there = refused-moves-nothing (stateOf c g) k (rw same at h) in
+    let alike = side-told (stateOf c f) (stateOf c g) k _ in
     record {
-      reply = here .reply ∙ (ap (refusedReply k) same ∙ sym (there .reply));
+      reply = ap stepSide (here .reply ∙ ap (refusedReply (stateOf c f) k) same) ∙ (alike ∙ sym (ap stepSide (there .reply)));
       controller = here .controller ∙ (ap (leftBy c k) same ∙ sym (there .controller));
     }
+
+pub refused-host-unknown : RefusedHostUnknown
+unfolding perform round
+refused-host-unknown c f g Nothing false long h = absurd (h refl)
+refused-host-unknown c f g Nothing true long h = absurd (h refl)
+refused-host-unknown c f g (Word a) false long h = host-unknown c f g long a h
+refused-host-unknown c f g (Word a) true long h =
+    by-both c f g long (λ x y. (numberOf (x .result .host .answer) ≡ 0 → ⊥) → x .result .host ≡ y .result .host) a
+    (host-unknown c f g long a) (λ n. absurd (n refl)) (host-unknown c f g long a) h
 
 -- A step of a read past its readable words leaves the same result on every image.
 blank-step : (c : Controller) (f g : Flash) (o : Operation) (moved readable : ℕ) → readable ≤ moved
@@ -90,8 +153,22 @@ blank-result c f g long p past =
     (λ e. rw (step-ready c f (rw (same-valid c f g long) e) p, step-ready c g e p) (blank-step c f g _ _ _ past))
     (λ e. rw (step-unready c f (rw (same-valid c f g long) e), step-unready c g e, same-valid c f g long))
 
--- and the result is all that it tells and leaves of the controller.
+-- and the result is all that it tells and leaves of the controller, as of a round with it.
+round-alike : (c : Controller) (f g : Flash) (h : HostRequest) (b : Bool) → length (f .words) ≡ length (g .words)
+    → step c f .result ≡ step c g .result → Alike c f g (Round h b)
+unfolding perform round hostRead
+round-alike c f g Nothing false long same = record { reply = refl; controller = refl }
+round-alike c f g Nothing true long same = record { reply = rw same; controller = rw same }
+round-alike c f g (Word a) false long same = record { reply = refl; controller = refl }
+round-alike c f g (Word a) true long same = record {
+  reply = by-both c f g long (λ x y. stepSide (byRound x .reply) ≡ stepSide (byRound y .reply)) a refl (rw same) (rw same);
+  controller = by-both c f g long (λ x y. x .result .controller ≡ y .result .controller) a refl (rw same) (rw same);
+}
+
 pub blank-unknown : BlankUnknown
 unfolding perform
 blank-unknown c f g o moved long p =
-    let same = blank-result c f g long p (omega arith) in record { reply = rw same; controller = rw same }
+    let same = blank-result c f g long p (omega arith) in (
+      record { reply = rw same; controller = rw same },
+      λ h b. round-alike c f g h b long same,
+    )

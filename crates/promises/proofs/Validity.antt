@@ -5,7 +5,7 @@ use mathlib.Core.List.{[], _∷_}
 use Rattle.model.specs.Lifecycle.{reset}
 use Rattle.model.specs.Host.{hostRead}
 use Rattle.model.specs.Valid.{valid}
-use Rattle.promises.specs.Calls.{Call, State, Shaped, Reset, SetInputs, SetRegion, SetDefault, SetInfo, SetErase, Initialise, Start, Step, Push, Pop, Whole, HostRead, ViewPage, Clear, Rma, perform}
+use Rattle.promises.specs.Calls.{Call, State, Shaped, Reset, SetInputs, SetRegion, SetDefault, SetInfo, SetErase, Initialise, Start, Step, Push, Pop, Whole, HostRead, ViewPage, Clear, Rma, Round, perform}
 use Rattle.promises.specs.Validity.{ValidStays, ResetIsValid}
 use Rattle.promises.proofs.Fields.{Valid, parts, together}
 use Rattle.promises.proofs.KeepSettings.{inputs-keep, region-keeps, default-keeps, page-keeps, erase-keeps}
@@ -14,6 +14,7 @@ use Rattle.promises.proofs.KeepQueues.{push-keeps, pop-keeps}
 use Rattle.promises.proofs.KeepSteps.{step-keeps}
 use Rattle.promises.proofs.KeepStart.{start-keeps}
 use Rattle.promises.proofs.KeepWholes.{whole-keeps}
+use Rattle.promises.proofs.KeepRounds.{round-keeps}
 
 -- Each call leaves a valid state valid,
 pub perform-keeps : (s : State) (k : Call) → Valid (s .controller) → Valid (perform s k .state .controller)
@@ -34,6 +35,7 @@ perform-keeps s (HostRead a) v = v
 perform-keeps s (ViewPage p) v = v
 perform-keeps s Clear v = clear-keeps (s .controller) v
 perform-keeps s Rma v = rma-keeps (s .controller) v (s .flash)
+perform-keeps s (Round h b) v = round-keeps (s .controller) (s .flash) h b v
 
 pub call-keeps : (s : State) (k : Call) → Shaped (s .controller) → valid (s .controller) ≡ true
     → Shaped (perform s k .state .controller) × (valid (perform s k .state .controller) ≡ true)

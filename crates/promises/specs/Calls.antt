@@ -12,6 +12,7 @@ use Rattle.model.specs.Settings.{setInputs, setRegion, setDefault, setInfo, set
 use Rattle.model.specs.Lifecycle.{reset, initialise, rma, noSeeds}
 use Rattle.model.specs.Steps.{start, push, pop, step}
 use Rattle.model.specs.Host.{View, hostRead, view}
+use Rattle.model.specs.Rounds.{hostUnserved, round}
 use Rattle.model.specs.Whole.{WholeLeaves, whole}
 use Rattle.model.specs.declared.Page.{Page}
 use Rattle.model.specs.declared.ByteAddress.{ByteAddress}
@@ -27,8 +28,13 @@ use Rattle.model.specs.declared.Movement.{Movement}
 use Rattle.model.specs.declared.Movement.the-variants.{None}
 use Rattle.model.specs.declared.Seeds.{Seeds}
 use Rattle.model.specs.declared.Initialised.{Initialised}
+use Rattle.model.specs.declared.HostRequest.{HostRequest}
+use Rattle.model.specs.declared.Turn.{Turn}
+use Rattle.model.specs.declared.Turn.the-variants.{Unasked}
+use Rattle.model.specs.declared.HostTurn.{HostTurn}
+use Rattle.model.specs.declared.Rounded.{Rounded}
 
--- The calls of 01, 'What may be asked'. A whole operation is lent a buffer.
+-- The calls of 01, 'What may be asked', and rounds (02, L1). A whole operation is lent a buffer.
 pub data Call : Type 0 where
   Reset : ℕ → Call
   SetInputs : Inputs → Call
@@ -46,9 +52,11 @@ pub data Call : Type 0 where
   ViewPage : Page → Call
   Clear : Call
   Rma : Call
+  Round : HostRequest → Bool → Call
 
 -- What a caller is told: the answer's number, and what comes with it (nothing, 0 or empty where a call has no such thing).
--- `buffer` is the lent buffer after a whole operation.
+-- `buffer` is the lent buffer after a whole operation. Of a round, `answer`, `movement`, `bits` and `turn` are its step's, and
+-- `host` is what the host is told.
 pub record Reply : Type 0 where
   pub answer : ℕ
   pub movement : Movement
@@ -57,6 +65,8 @@ pub record Reply : Type 0 where
   pub seeds : Seeds
   pub view : View
   pub buffer : List ℕ
+  pub turn : Turn
+  pub host : HostTurn
 
 pub record Performed : Type 0 where
   pub state : State
@@ -65,8 +75,40 @@ pub record Performed : Type 0 where
 abbrev pub noView : View
 noView = record { number = 0; start = record { 0 = 0 }; words = [] }
 
+-- A call that is no round asks neither side of one: its answer, movement, bits, word, seeds, view and buffer.
+abbrev pub plainly : ℕ → Movement → ℕ → ℕ → Seeds → View → List ℕ → Reply
+plainly n m bits w seeds v b = record {
+  answer = n;
+  movement = m;
+  bits = bits;
+  word = w;
+  seeds = seeds;
+  view = v;
+  buffer = b;
+  turn = Unasked;
+  host = hostUnserved Unasked;
+}
+
+-- A reply with other turns: the step's, and the host's.
+abbrev pub withTurns : Reply → Turn → HostTurn → Reply
+withTurns r t h = record {
+  answer = r .answer;
+  movement = r .movement;
+  bits = r .bits;
+  word = r .word;
+  seeds = r .seeds;
+  view = r .view;
+  buffer = r .buffer;
+  turn = t;
+  host = h;
+}
+
+-- Of a step, and of a call that tells its answer alone.
+abbrev pub toldStep : ℕ → Movement → ℕ → Reply
+toldStep n m bits = plainly n m bits 0 noSeeds noView []
+
 abbrev pub told : ℕ → Reply
-told n = record { answer = n; movement = None; bits = 0; word = 0; seeds = noSeeds; view = noView; buffer = [] }
+told n = toldStep n None 0
 
 abbrev pub byOutcome : Flash → Outcome → Performed
 byOutcome f r = record { state = record { controller = r .controller; flash = f }; reply = told (numberOf (r .answer)) }
@@ -74,63 +116,36 @@ byOutcome f r = record { state = record { controller = r .controller; flash = f 
 abbrev pub byFetch : Flash → Fetched → Performed
 byFetch f r = record {
   state = record { controller = r .controller; flash = f };
-  reply = record {
-    answer = numberOf (r .answer);
-    movement = None;
-    bits = 0;
-    word = r .word;
-    seeds = noSeeds;
-    view = noView;
-    buffer = [];
-  };
+  reply = plainly (numberOf (r .answer)) None 0 (r .word) noSeeds noView [];
 }
 
 abbrev pub byStep : Leaves Stepped → Performed
 byStep l = record {
   state = record { controller = l .result .controller; flash = l .flash };
-  reply = record {
-    answer = numberOf (l .result .answer);
-    movement = l .result .movement;
-    bits = l .result .bits;
-    word = 0;
-    seeds = noSeeds;
-    view = noView;
-    buffer = [];
-  };
+  reply = toldStep (numberOf (l .result .answer)) (l .result .movement) (l .result .bits);
 }
 
 abbrev pub byInitialise : Flash → Initialised → Performed
 byInitialise f r = record {
   state = record { controller = r .controller; flash = f };
-  reply = record {
-    answer = numberOf (r .answer);
-    movement = None;
-    bits = 0;
-    word = 0;
-    seeds = r .seeds;
-    view = noView;
-    buffer = [];
-  };
+  reply = plainly (numberOf (r .answer)) None 0 0 (r .seeds) noView [];
 }
 
 abbrev pub byView : State → View → Performed
-byView s v = record {
-  state = s;
-  reply = record { answer = v .number; movement = None; bits = 0; word = 0; seeds = noSeeds; view = v; buffer = [] };
-}
+byView s v = record { state = s; reply = plainly (v .number) None 0 0 noSeeds v [] }
 
 abbrev pub byWhole : WholeLeaves → Performed
 byWhole l = record {
   state = record { controller = l .result .controller; flash = l .flash };
-  reply = record {
-    answer = numberOf (l .result .answer);
-    movement = None;
-    bits = l .result .bits;
-    word = 0;
-    seeds = noSeeds;
-    view = noView;
-    buffer = l .buffer;
-  };
+  reply = plainly (numberOf (l .result .answer)) None (l .result .bits) 0 noSeeds noView (l .buffer);
+}
+
+abbrev pub byRound : Leaves Rounded → Performed
+byRound l = record {
+  state = record { controller = l .result .controller; flash = l .flash };
+  reply =
+      withTurns (toldStep (numberOf (l .result .step .answer)) (l .result .step .movement) (l .result .step .bits))
+      (l .result .step .turn) (l .result .host);
 }
 
 unfoldable pub perform : State → Call → Performed
@@ -150,6 +165,7 @@ perform s (HostRead a) = byFetch (s .flash) (hostRead (s .controller) (s .flash)
 perform s (ViewPage p) = byView s (view (s .controller) (s .flash) p)
 perform s Clear = byOutcome (s .flash) (clear (s .controller))
 perform s Rma = byOutcome (rma (s .controller) (s .flash) .flash) (rma (s .controller) (s .flash) .result)
+perform s (Round h b) = byRound (round (s .controller) (s .flash) h b)
 
 -- A list of calls, one after the other: the state at the end, and what each call told.
 abbrev pub run : State → List Call → State
@@ -167,3 +183,4 @@ pub record Shaped (c : Controller) : Type 0 where
   pub erase : length (c .setup .settings .erase) ≡ 2
   pub reads : length (c .queues .reads .words) ≡ 16
   pub programs : length (c .queues .programs .words) ≡ 16
+  pub lost : length (c .physical .lost) ≡ 2

@@ -22,7 +22,7 @@ use Rattle.model.specs.declared.Progress.the-variants.{Idle, Running}
 use Rattle.model.specs.declared.Setup.{Setup}
 use Rattle.model.specs.declared.Controller.{Controller}
 use Rattle.model.specs.declared.BusWord.{BusWord}
-use Rattle.promises.specs.Calls.{Call, State, Shaped, Reset, SetInputs, SetRegion, SetDefault, SetInfo, SetErase, Initialise, Start, Step, Push, Pop, Whole, HostRead, ViewPage, Clear, Rma, perform, run}
+use Rattle.promises.specs.Calls.{Call, State, Shaped, Reset, SetInputs, SetRegion, SetDefault, SetInfo, SetErase, Initialise, Start, Step, Push, Pop, Whole, HostRead, ViewPage, Clear, Rma, Round, perform, run}
 
 -- ---- a protected page
 
@@ -52,6 +52,7 @@ isRma (HostRead a) = false
 isRma (ViewPage p) = false
 isRma Clear = false
 isRma Rma = true
+isRma (Round h b) = false
 
 -- The page is protected at every call of the list, and none of them is RMA.
 abbrev pub protectedAlong : ImagePage → State → List Call → Bool
@@ -101,6 +102,7 @@ erasesPlace c (HostRead a) place = false
 erasesPlace c (ViewPage p) place = false
 erasesPlace c Clear place = false
 erasesPlace c Rma place = isWiped (c .setup .pages) place
+erasesPlace c (Round h b) place = b && stepErases (c .setup .pages) (c .progress) place
 
 abbrev pub RisesByErase : Type 0
 RisesByErase =

@@ -14,7 +14,8 @@ use Rattle.model.specs.declared.Work.the-variants.{Read, Program, Erase}
 use Rattle.model.specs.declared.Progress.{Progress}
 use Rattle.model.specs.declared.Progress.the-variants.{Idle, Running}
 use Rattle.model.specs.declared.Controller.{Controller}
-use Rattle.promises.specs.Calls.{Call, State, Reply, Shaped, Step, Push, Pop, perform, replies}
+use Rattle.model.specs.declared.HostRequest.{HostRequest}
+use Rattle.promises.specs.Calls.{Call, State, Reply, Shaped, Step, Push, Pop, Round, perform, replies}
 
 -- The words that what is in progress has left to move.
 abbrev pub leftOf : ℕ → Progress → ℕ
@@ -26,12 +27,13 @@ leftOf d (Running (Erase o k)) = totalWords d o - k
 abbrev pub wordsLeft : Controller → ℕ
 wordsLeft c = leftOf (c .setup .pages) (c .progress)
 
--- Steps, pushes and pops, in any order.
+-- Steps, pushes, pops and rounds, in any order.
 pub data Driving : List Call → Type 0 where
   done : Driving []
   step : {ks : List Call} → Driving ks → Driving (Step ∷ ks)
   push : {w : ℕ} {ks : List Call} → Driving ks → Driving (Push w ∷ ks)
   pop : {ks : List Call} → Driving ks → Driving (Pop ∷ ks)
+  round : {h : HostRequest} {b : Bool} {ks : List Call} → Driving ks → Driving (Round h b ∷ ks)
 
 -- With w words left, the w-th moving step answers finished and none before it does; after it none moves.
 abbrev pub countedBy : ℕ → Movement → Bool → Bool

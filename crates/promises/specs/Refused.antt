@@ -10,11 +10,20 @@ use Rattle.model.specs.Kinds.{isRead}
 use Rattle.model.specs.Queue.{emptyQueue}
 use Rattle.model.specs.State.{withProgress, withQueues, withReads}
 use Rattle.model.specs.Errors.{withRecorded}
+use Rattle.model.specs.Refusals.{numberOf}
+use Rattle.model.specs.Lifecycle.{noSeeds}
+use Rattle.model.specs.Host.{hostRead}
+use Rattle.model.specs.Rounds.{hostUnserved, hostServed}
 use Rattle.model.specs.declared.Operation.{Operation}
 use Rattle.model.specs.declared.Work.the-variants.{Read}
 use Rattle.model.specs.declared.Progress.the-variants.{Running}
 use Rattle.model.specs.declared.Controller.{Controller}
-use Rattle.promises.specs.Calls.{Call, State, Reply, Reset, SetInputs, SetRegion, SetDefault, SetInfo, SetErase, Initialise, Start, Step, Push, Pop, Whole, HostRead, ViewPage, Clear, Rma, noView, told, perform}
+use Rattle.model.specs.declared.Movement.the-variants.{None}
+use Rattle.model.specs.declared.HostRequest.{HostRequest}
+use Rattle.model.specs.declared.HostRequest.the-variants.{Nothing, Word}
+use Rattle.model.specs.declared.Turn.the-variants.{Unasked, Served}
+use Rattle.model.specs.declared.HostTurn.{HostTurn}
+use Rattle.promises.specs.Calls.{Call, State, Reply, Reset, SetInputs, SetRegion, SetDefault, SetInfo, SetErase, Initialise, Start, Step, Push, Pop, Whole, HostRead, ViewPage, Clear, Rma, Round, noView, plainly, withTurns, told, perform}
 
 -- A denied read (9) is refused and still runs, blank: it delivers ones.
 abbrev pub isBlank : Operation → ℕ → Bool
@@ -50,47 +59,44 @@ leftBy c (HostRead a) n = c
 leftBy c (ViewPage p) n = c
 leftBy c Clear n = c
 leftBy c Rma n = c
+leftBy c (Round h b) n = c
+
+-- Beside a refused step, a round tells the host what its own call would. (02, L1)
+abbrev pub hostTold : State → HostRequest → HostTurn
+hostTold s Nothing = hostUnserved Unasked
+hostTold s (Word a) = hostServed (hostRead (s .controller) (s .flash) a)
 
 -- Any refusal gives its number and otherwise a word of 0, a bit count of 0, no seeds and an empty view; a whole operation's
 -- comes with its buffer.
-abbrev pub refusedReply : Call → ℕ → Reply
-refusedReply (Reset d) n = told n
-refusedReply (SetInputs i) n = told n
-refusedReply (SetRegion k g) n = told n
-refusedReply (SetDefault r) n = told n
-refusedReply (SetInfo bank t page p) n = told n
-refusedReply (SetErase bank on) n = told n
-refusedReply Initialise n = told n
-refusedReply (Start o) n = told n
-refusedReply Step n = told n
-refusedReply (Push w) n = told n
-refusedReply Pop n = told n
-refusedReply (Whole o b) n = record {
-  answer = n;
-  movement = told n .movement;
-  bits = 0;
-  word = 0;
-  seeds = told n .seeds;
-  view = noView;
-  buffer = bufferBy o b n;
-}
-refusedReply (HostRead a) n = told n
-refusedReply (ViewPage p) n = record {
-  answer = n;
-  movement = told n .movement;
-  bits = 0;
-  word = 0;
-  seeds = told n .seeds;
-  view = record { number = n; start = record { 0 = 0 }; words = [] };
-  buffer = [];
-}
-refusedReply Clear n = told n
-refusedReply Rma n = told n
+abbrev pub refusedReply : State → Call → ℕ → Reply
+refusedReply s (Reset d) n = told n
+refusedReply s (SetInputs i) n = told n
+refusedReply s (SetRegion k g) n = told n
+refusedReply s (SetDefault r) n = told n
+refusedReply s (SetInfo bank t page p) n = told n
+refusedReply s (SetErase bank on) n = told n
+refusedReply s Initialise n = told n
+refusedReply s (Start o) n = told n
+refusedReply s Step n = told n
+refusedReply s (Push w) n = told n
+refusedReply s Pop n = told n
+refusedReply s (Whole o b) n = plainly n None 0 0 noSeeds noView (bufferBy o b n)
+refusedReply s (HostRead a) n = told n
+refusedReply s (ViewPage p) n = plainly n None 0 0 noSeeds (record { number = n; start = record { 0 = 0 }; words = [] }) []
+refusedReply s Clear n = told n
+refusedReply s Rma n = told n
+refusedReply s (Round h b) n = withTurns (told n) Served (hostTold s h)
 
 pub record Leaves (s : State) (k : Call) : Type 0 where
   pub flash : perform s k .state .flash ≡ s .flash
   pub controller : perform s k .state .controller ≡ leftBy (s .controller) k (perform s k .reply .answer)
-  pub reply : perform s k .reply ≡ refusedReply k (perform s k .reply .answer)
+  pub reply : perform s k .reply ≡ refusedReply s k (perform s k .reply .answer)
 
 abbrev pub RefusedMovesNothing : Type 0
 RefusedMovesNothing = (s : State) (k : Call) → (perform s k .reply .answer ≡ 0 → ⊥) → Leaves s k
+
+-- A refused host read uses its turn in a round, and tells the word 0, whatever the step does. (02, L1)
+abbrev pub RefusedHostServed : Type 0
+RefusedHostServed =
+    (s : State) (h : HostRequest) (b : Bool) → (numberOf (perform s (Round h b) .reply .host .answer) ≡ 0 → ⊥)
+    → (perform s (Round h b) .reply .host .turn ≡ Served) × (perform s (Round h b) .reply .host .word ≡ 0)

@@ -1,4 +1,5 @@
 -- Proofs of specs/.
 
 pub mod KeepBytes
+pub mod KeepRounds
 pub mod RefinementProof

@@ -13,10 +13,12 @@ use Rattle.model.specs.Settings.{configured, setInputs, setRegion, setDefault, 
 use Rattle.model.specs.Lifecycle.{reset, initialiseAnswer, initialise, rmaAnswer, rma}
 use Rattle.model.specs.Steps.{startAnswer, start, push, popAnswer, pop, step}
 use Rattle.model.specs.Valid.{valid, validWith}
+use Rattle.model.specs.Rounds.{round}
 use Rattle.model.specs.Whole.{wholeAnswer, whole}
+use Rattle.model.specs.declared.HostRequest.{HostRequest}
 use Rattle.model.specs.declared.Controller.{Controller}
 use Rattle.model.proofs.Bool.{or-right, by-test}
-use Rattle.promises.specs.Calls.{State, Call, SetInputs, SetRegion, SetDefault, SetInfo, SetErase, Initialise, Start, Step, Push, Pop, Whole, Clear, Rma, perform}
+use Rattle.promises.specs.Calls.{State, Call, SetInputs, SetRegion, SetDefault, SetInfo, SetErase, Initialise, Start, Step, Push, Pop, Whole, Clear, Rma, Round, perform}
 use Rattle.promises.specs.Refused.{leftBy}
 use Rattle.promises.proofs.Validity.{call-keeps}
 use Rattle.promises.proofs.RefusedProof.{refused-moves-nothing}
@@ -26,9 +28,10 @@ use Rattle.registers.specs.Registers.{decode, handBack}
 use Rattle.registers.proofs.There.{Shaped, handed-back, stands-shaped}
 use Rattle.registers.proofs.Cleared.{decode-cleared}
 use Rattle.validity.proofs.Taken.{taken-stands}
-use Rattle.calls.specs.Calls.{setInputsIn, setRegionIn, setDefaultIn, setInfoIn, setEraseIn, clearIn, pushIn, popIn, initialiseIn, stepIn, rmaIn, resetIn, startIn, wholeIn}
+use Rattle.calls.specs.Calls.{setInputsIn, setRegionIn, setDefaultIn, setInfoIn, setEraseIn, clearIn, pushIn, popIn, initialiseIn, stepIn, rmaIn, resetIn, startIn, wholeIn, roundIn, tellsMovement}
 use Rattle.refinement.specs.Refinement.{RefinesOn, Refines}
 use Rattle.refinement.proofs.KeepBytes.{Bytes, start-bytes, step-bytes, whole-same}
+use Rattle.refinement.proofs.KeepRounds.{round-silent, round-taken, round-bytes}
 
 -- The model's call on what the registers stand for: what it answers, and the controller that it leaves.
 abbrev before : List ℕ → Flash → State
@@ -40,20 +43,21 @@ answered s f k = perform (before s f) k .reply .answer
 abbrev left : List ℕ → Flash → Call → Controller
 left s f k = perform (before s f) k .state .controller
 
-module _ (s : List ℕ) (long : length s ≡ 135) (f : Flash) (k : Call) where
+module _ (s : List ℕ) (long : length s ≡ 137) (f : Flash) (k : Call) where
   -- A valid state is left valid, with the shape of its type.
   left-shaped : valid (decode s) ≡ true → (Bytes (decode s .progress) → Bytes (left s f k .progress))
       → Shaped (left s f k) × (valid (left s f k) ≡ true)
   left-shaped v keeps =
       let a : Shaped (decode s) = subst Shaped (sym (taken-stands s v)) (stands-shaped s) in
       let (shape, fits) =
-      call-keeps (before s f) k (record { regions = a .regions; info = a .info; erase = a .erase; reads = a .reads; programs = a .programs }) v in (
+      call-keeps (before s f) k (record { regions = a .regions; info = a .info; erase = a .erase; reads = a .reads; programs = a .programs; lost = a .lost }) v in (
         record {
           regions = shape .regions;
           info = shape .info;
           erase = shape .erase;
           reads = shape .reads;
           programs = shape .programs;
+          lost = shape .lost;
           operation = keeps (record { are = a .operation }) .are;
         },
         fits,
@@ -87,6 +91,17 @@ module _ (s : List ℕ) (long : length s ≡ 135) (f : Flash) (k : Call) where
   recording refuses same keeps =
       refined (λ n. eqb n 0 || isRecorded n) refl refl refuses (λ n e. same n (or-right (eqb n 0) (isRecorded n) e)) (λ e. keeps)
 
+-- A round changes the registers where its step tells a movement.
+round-refined : (s : List ℕ) → length s ≡ 137 → (f : Flash) (h : HostRequest) (b : Bool)
+    → decode (roundIn s f h b .registers) ≡ round (decode s) f h b .result .controller
+unfolding perform roundIn
+round-refined s long f h b =
+    let told : Bool = tellsMovement (round (decode s) f h b .result .step .movement) in
+    let shaped : told ≡ true → Shaped (left s f (Round h b)) × (valid (left s f (Round h b)) ≡ true) =
+    λ e. left-shaped s long f (Round h b) (round-taken (decode s) f h b e) (round-bytes (decode s) f h b) in
+    handed-back s told (left s f (Round h b)) (record { size = long }) (λ e. shaped e .0) (λ e. shaped e .1)
+    (λ e. sym (round-silent (decode s) f h b e))
+
 -- A call that is lent no flash has none.
 abbrev noFlash : Flash
 noFlash = flash []
@@ -106,6 +121,7 @@ refines-on s long = record {
   steps = λ f. plain s long f Step (λ v. rw v) (λ n. refl) (λ e. step-bytes (decode s) f);
   pushes = λ w. plain s long noFlash (Push w) (λ v. rw v) (λ n. refl) (λ e b. rw e b);
   pops = plain s long noFlash Pop (λ v. rw v) (λ n. refl) (λ e b. rw e b);
+  rounds = round-refined s long;
   completes = λ f o buffer.
       recording s long f (Whole o buffer) (λ v. rw v) (λ n e. whole-unrecorded (decode s) o n e buffer)
       (λ b. rw (whole-same (decode s) f o buffer) b);

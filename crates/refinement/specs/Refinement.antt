@@ -10,14 +10,16 @@ use Rattle.model.specs.Errors.{clear}
 use Rattle.model.specs.Settings.{setInputs, setRegion, setDefault, setInfo, setErase}
 use Rattle.model.specs.Lifecycle.{reset, initialise, rma}
 use Rattle.model.specs.Steps.{start, push, pop, step}
+use Rattle.model.specs.Rounds.{round}
 use Rattle.model.specs.Whole.{whole}
 use Rattle.model.specs.declared.Inputs.{Inputs}
 use Rattle.model.specs.declared.Region.{Region}
 use Rattle.model.specs.declared.PageSetting.{PageSetting}
 use Rattle.model.specs.declared.Operation.{Operation}
+use Rattle.model.specs.declared.HostRequest.{HostRequest}
 use Rattle.registers.specs.Layout.{registerCount}
 use Rattle.registers.specs.Registers.{decode}
-use Rattle.calls.specs.Calls.{setInputsIn, setRegionIn, setDefaultIn, setInfoIn, setEraseIn, clearIn, pushIn, popIn, initialiseIn, stepIn, rmaIn, resetIn, startIn, wholeIn}
+use Rattle.calls.specs.Calls.{setInputsIn, setRegionIn, setDefaultIn, setInfoIn, setEraseIn, clearIn, pushIn, popIn, initialiseIn, stepIn, rmaIn, resetIn, startIn, wholeIn, roundIn}
 
 -- On these registers, whatever a call is given, and accepted or refused. (Host reads and views change no register.)
 pub record RefinesOn (s : List ℕ) : Type 0 where
@@ -38,6 +40,9 @@ pub record RefinesOn (s : List ℕ) : Type 0 where
   pub steps : (f : Flash) → decode (stepIn s f .registers) ≡ step (decode s) f .result .controller
   pub pushes : (w : ℕ) → decode (pushIn s w .registers) ≡ push (decode s) w .controller
   pub pops : decode (popIn s .registers) ≡ pop (decode s) .controller
+  -- A round.
+  pub rounds : (f : Flash) (host : HostRequest) (step : Bool)
+      → decode (roundIn s f host step .registers) ≡ round (decode s) f host step .result .controller
   -- A whole operation, with a lent buffer.
   pub completes : (f : Flash) (o : Operation) (b : List ℕ)
       → decode (wholeIn s f o b .registers) ≡ whole (decode s) f o b .result .controller

@@ -33,8 +33,8 @@ zeroed-all [] = refl
 zeroed-all (x ∷ s) = zeroed-behind 0 s 0 (length s) ∙ ap (λ (t : List ℕ). 0 ∷ t) (zeroed-all s)
 
 -- Registers that are all 0 but D stand for the controller after reset.
-pub decode-cleared : (s : List ℕ) (d : ℕ) → length s ≡ 135 → decode (cleared s d) ≡ resetController d
+pub decode-cleared : (s : List ℕ) (d : ℕ) → length s ≡ 137 → decode (cleared s d) ≡ resetController d
 unfolding cleared decode encoded standsFor regionsOf infoOf progressAt queueOf
 decode-cleared s d long =
-    let zeros : zeroed s 0 135 ≡ replicate 135 0 = ap (zeroed s 0) (sym long) ∙ zeroed-all s ∙ ap (λ (n : ℕ). replicate n 0) long in
+    let zeros : zeroed s 0 137 ≡ replicate 137 0 = ap (zeroed s 0) (sym long) ∙ zeroed-all s ∙ ap (λ (n : ℕ). replicate n 0) long in
     rw zeros

@@ -15,8 +15,8 @@ use Rattle.model.specs.Valid.{all, valid}
 use Rattle.model.specs.declared.Controller.{Controller}
 use Rattle.model.proofs.Bool.{and-left, and-right, by-test}
 use Rattle.registers.specs.Registers.{isFlag, isOn, flagOf, maskOf, phaseOf, phaseNumber, listed, every, encoded, decode, plainEncoded, progressEncoded, regionEncoded, settingEncoded}
-use Rattle.registers.specs.Registers.{standsFor, regionsOf, infoOf, regionAt, settingAt, queueAt, errorsAt, progressAt, operationAt, putQueue, putInputs, putProgress, putRunning, putRegion}
-use Rattle.registers.specs.Registers.{putSetting, putErase, putAll, putFromErrors, putFromPrograms, putFromReads, putFromProgress, putFromErase, putFromInfo, putFromRegions, putFromInputs, put}
+use Rattle.registers.specs.Registers.{standsFor, regionsOf, infoOf, regionAt, settingAt, queueAt, errorsAt, progressAt, operationAt, putQueue, putErrors, putInputs, putProgress, putRunning, putRegion}
+use Rattle.registers.specs.Registers.{putSetting, putErase, putAll, putFromPhysical, putFromErrors, putFromPrograms, putFromReads, putFromProgress, putFromErase, putFromInfo, putFromRegions, putFromInputs, put}
 use Rattle.registers.proofs.Listed.{sets-same}
 
 -- ---- numbers that stand for something are what they are put as
@@ -207,9 +207,17 @@ module _ {t s : List ℕ} (a : Alike t s 91) where
 -- ---- from each place on, and all
 
 module _ {s : List ℕ} (p : Parts s) where
+  pub from-physical : {t : List ℕ} → Alike t s 135 → putFromPhysical t (standsFor s) ≡ t
+  unfolding putFromPhysical standsFor
+  from-physical a = words-kept 135 2 a
+
+  errors-kept : {t : List ℕ} → Alike t s 133 → putErrors t (standsFor s .errors) ≡ t
+  unfolding standsFor
+  errors-kept {t = t} a = rw (p .mask, held t 133 (a .same 133 (omega arith))) (held t 134 (a .same 134 (omega arith)))
+
   pub from-errors : {t : List ℕ} → Alike t s 133 → putFromErrors t (standsFor s) ≡ t
-  unfolding putFromErrors standsFor
-  from-errors {t = t} a = rw (p .mask, held t 133 (a .same 133 (omega arith))) (held t 134 (a .same 134 (omega arith)))
+  unfolding putFromErrors
+  from-errors {t = t} a = ap (λ (l : List ℕ). putFromPhysical l (standsFor s)) (errors-kept a) ∙ from-physical (later (omega arith) a)
 
   pub from-programs : {t : List ℕ} → Alike t s 116 → putFromPrograms t (standsFor s) ≡ t
   unfolding putFromPrograms standsFor

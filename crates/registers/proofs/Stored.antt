@@ -24,14 +24,14 @@ use Rattle.model.specs.declared.Progress.the-variants.{Idle, Running}
 use Rattle.model.specs.declared.Controller.{Controller}
 use Rattle.model.proofs.Bool.{and-left, and-right, by-test}
 use Rattle.registers.specs.Registers.{isFlag, isOn, flagOf, maskOf, phaseOf, phaseNumber, listed, every, progressEncoded, regionEncoded, settingEncoded, regionAt, settingAt, queueAt, errorsAt}
-use Rattle.registers.specs.Registers.{progressAt, operationAt, putQueue, readableKept, putProgress, putRunning, putRegion, putSetting, putErase, putAll, putFromErrors, putFromPrograms}
+use Rattle.registers.specs.Registers.{progressAt, operationAt, putQueue, readableKept, putProgress, putRunning, putRegion, putSetting, putErase, putAll, putFromPhysical, putFromErrors, putFromPrograms}
 use Rattle.registers.specs.Registers.{putFromReads, putFromProgress, putFromErase, putFromInfo, putFromRegions, putFromInputs}
 use Rattle.registers.proofs.Listed.{listed-length, listed-at, Copied, copied-all}
 
 -- ---- one number
 
 pub record Long (t : List ℕ) : Type 0 where
-  pub size : length t ≡ 135
+  pub size : length t ≡ 137
 
 pub record At (t : List ℕ) (i v : ℕ) : Type 0 where
   pub is : getD t i 0 ≡ v
@@ -39,7 +39,7 @@ pub record At (t : List ℕ) (i v : ℕ) : Type 0 where
 pub long-set : {t : List ℕ} (i v : ℕ) → Long t → Long (set t i v)
 long-set {t = t} i v l = record { size = length-set t i v ∙ l .size }
 
-pub there : {t : List ℕ} (i v : ℕ) → i < 135 → Long t → At (set t i v) i v
+pub there : {t : List ℕ} (i v : ℕ) → i < 137 → Long t → At (set t i v) i v
 there {t = t} i v b l = record { is = getD-set-same t i v 0 (rw (l .size) b) }
 
 pub over : {t : List ℕ} {k v : ℕ} (i w : ℕ) → k < i → At t k v → At (set t i w) k v
@@ -57,7 +57,7 @@ pub over-sets : {t : List ℕ} {k v : ℕ} (i : ℕ) (vs : List ℕ) → k < i �
 over-sets i [] b a = a
 over-sets i (w ∷ vs) b a = over-sets (suc i) vs (omega arith) (over i w b a)
 
-pub there-sets : {t : List ℕ} (i : ℕ) (vs : List ℕ) (j : ℕ) → i + length vs ≤ 135 → j < length vs → Long t → At (sets t i vs) (i + j) (getD vs j 0)
+pub there-sets : {t : List ℕ} (i : ℕ) (vs : List ℕ) (j : ℕ) → i + length vs ≤ 137 → j < length vs → Long t → At (sets t i vs) (i + j) (getD vs j 0)
 there-sets i [] j b h l = absurd (not-suc-le-zero h)
 there-sets i (v ∷ vs) zero b h l = rw (add-zero i) (over-sets (suc i) vs (omega arith) (there i v (omega arith) l))
 there-sets i (v ∷ vs) (suc j) b h l =
@@ -246,7 +246,7 @@ pub record QueueAt (t : List ℕ) (at : ℕ) (q : Queue) : Type 0 where
   pub word : (j : ℕ) → j < 16 → At t (at + j) (getD (q .words) j 0)
   pub len : At t (at + 16) (q .len)
 
-pub queue-put : (t : List ℕ) (at : ℕ) (q : Queue) → at + 17 ≤ 135 → length (q .words) ≡ 16 → Long t → QueueAt (putQueue t at q) at q
+pub queue-put : (t : List ℕ) (at : ℕ) (q : Queue) → at + 17 ≤ 137 → length (q .words) ≡ 16 → Long t → QueueAt (putQueue t at q) at q
 queue-put t at q b e l = record {
   word = λ j h. over (at + 16) (q .len) (omega arith) (there-sets at (q .words) j (omega arith) (omega arith) l);
   len = there (at + 16) (q .len) (omega arith) (long-sets at (q .words) l);
@@ -260,9 +260,13 @@ queue-is {t = t} {at = at} {q = q} e h =
 -- ---- what is put later leaves what was put before
 
 module _ (c : Controller) {k v : ℕ} where
+  pub later-physical : (t : List ℕ) → k < 135 → At t k v → At (putFromPhysical t c) k v
+  unfolding putFromPhysical
+  later-physical t b a = over-sets 135 (c .physical .lost) b a
+
   pub later-errors : (t : List ℕ) → k < 133 → At t k v → At (putFromErrors t c) k v
   unfolding putFromErrors
-  later-errors t b a = over 134 _ (omega arith) (over 133 _ b a)
+  later-errors t b a = later-physical _ (omega arith) (over 134 _ (omega arith) (over 133 _ b a))
 
   pub later-programs : (t : List ℕ) → k < 116 → At t k v → At (putFromPrograms t c) k v
   unfolding putFromPrograms

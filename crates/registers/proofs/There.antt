@@ -14,13 +14,13 @@ use Rattle.model.specs.declared.Region.{Region}
 use Rattle.model.specs.declared.Controller.{Controller}
 use Rattle.model.proofs.Bool.{and-left, and-right, by-test}
 use Rattle.model.proofs.Valid.{valid-parts}
-use Rattle.registers.specs.Registers.{isOn, flagOf, maskOf, phaseNumber, encoded, decode, regionEncoded, settingEncoded, standsFor, regionsOf, infoOf, regionAt, settingAt, errorsAt, progressAt}
-use Rattle.registers.specs.Registers.{operationAt, putQueue, putInputs, putProgress, putRegion, putSetting, putErase, putAll, putFromErrors, putFromPrograms, putFromReads, putFromProgress}
+use Rattle.registers.specs.Registers.{isOn, flagOf, maskOf, phaseNumber, encoded, decode, regionEncoded, settingEncoded, standsFor, regionsOf, infoOf, regionAt, settingAt, errorsAt, progressAt, physicalAt}
+use Rattle.registers.specs.Registers.{operationAt, putQueue, putErrors, putInputs, putProgress, putRegion, putSetting, putErase, putAll, putFromPhysical, putFromErrors, putFromPrograms, putFromReads, putFromProgress}
 use Rattle.registers.specs.Registers.{putFromErase, putFromInfo, putFromRegions, putFromInputs, put, handBack}
-use Rattle.registers.proofs.Stored.{all-there, Long, At, long-set, there, over, listed-is, every-true, all-at, RegionAt, long-region, region-put, region-keeps, SettingAt, long-setting}
+use Rattle.registers.proofs.Stored.{all-there, Long, At, long-set, there, over, listed-is, every-true, all-at, RegionAt, long-region, region-put, region-keeps, SettingAt, long-setting, there-sets}
 use Rattle.registers.proofs.Stored.{setting-put, setting-keeps, EraseAt, long-erase, erase-put, erase-keeps, long-progress, long-queue, QueueAt, queue-put, queue-is, on-flag, flag-is-flag}
 use Rattle.registers.proofs.Stored.{phase-of-number, number-is-phase, errors-is, byte, region-is, region-encoded, setting-is, setting-encoded, bytes, asBytes, ProgressAt, long-all}
-use Rattle.registers.proofs.Stored.{later-errors, later-programs, later-progress, later-erase, later-info, later-regions, later-inputs, progress-is}
+use Rattle.registers.proofs.Stored.{later-physical, later-errors, later-programs, later-progress, later-erase, later-info, later-regions, later-inputs, progress-is}
 
 -- ---- all of it
 
@@ -32,6 +32,7 @@ pub record Shaped (c : Controller) : Type 0 where
   pub reads : length (c .queues .reads .words) ≡ 16
   pub programs : length (c .queues .programs .words) ≡ 16
   pub operation : asBytes (c .progress) ≡ true
+  pub lost : length (c .physical .lost) ≡ 2
 
 module _ (s : List ℕ) (c : Controller) (long : Long s) (shape : Shaped c) (fits : valid c ≡ true) where
   abbrev s2 : List ℕ
@@ -57,6 +58,9 @@ module _ (s : List ℕ) (c : Controller) (long : Long s) (shape : Shaped c) (fit
 
   abbrev s133 : List ℕ
   s133 = putQueue s116 116 (c .queues .programs)
+
+  abbrev s135 : List ℕ
+  s135 = putErrors s133 (c .errors)
 
   l2 : Long s2
   l2 = long-set _ _ (long-set _ _ long)
@@ -155,11 +159,18 @@ module _ (s : List ℕ) (c : Controller) (long : Long s) (shape : Shaped c) (fit
 
   mask-there : At (put s c) 133 (maskOf (c .errors))
   unfolding put putFromInputs putFromRegions putFromInfo putFromErase putFromProgress putFromReads putFromPrograms putFromErrors
-  mask-there = over 134 _ (omega arith) (there 133 _ (omega arith) l133)
+  mask-there = later-physical c s135 (omega arith) (over 134 _ (omega arith) (there 133 _ (omega arith) l133))
 
   address-there : At (put s c) 134 (c .errors .address .0)
   unfolding put putFromInputs putFromRegions putFromInfo putFromErase putFromProgress putFromReads putFromPrograms putFromErrors
-  address-there = there 134 _ (omega arith) (long-set _ _ l133)
+  address-there = later-physical c s135 (omega arith) (there 134 _ (omega arith) (long-set _ _ l133))
+
+  lost-there : physicalAt (put s c) ≡ c .physical
+  unfolding put putFromInputs putFromRegions putFromInfo putFromErase putFromProgress putFromReads putFromPrograms putFromErrors putFromPhysical
+  lost-there =
+      ap (λ (l : List ℕ). record { lost = l })
+      (listed-is (λ k. getD (put s c) (135 + k) 0) 2 0 (c .physical .lost) (shape .lost)
+      (λ k b. there-sets 135 (c .physical .lost) k (omega (arith, shape .lost)) (omega (arith, shape .lost)) (long-set _ _ (long-set _ _ l133)) .is))
 
   -- ---- rights of a valid state
 
@@ -234,6 +245,7 @@ module _ (s : List ℕ) (c : Controller) (long : Long s) (shape : Shaped c) (fit
         queue-is (shape .reads) reads-there,
         queue-is (shape .programs) programs-there,
         progress-there .reads,
+        lost-there,
         pages-there .is,
         phase-there .is,
         provision-there .is,
@@ -271,4 +283,4 @@ bytes-stand s =
 
 pub stands-shaped : (s : List ℕ) → Shaped (standsFor s)
 unfolding standsFor regionsOf infoOf
-stands-shaped s = record { regions = refl; info = refl; erase = refl; reads = refl; programs = refl; operation = bytes-stand s }
+stands-shaped s = record { regions = refl; info = refl; erase = refl; reads = refl; programs = refl; operation = bytes-stand s; lost = refl }

@@ -1,6 +1,7 @@
 -- A state of which one part is changed, put into the numbers that encode the state: what is written is that part. Assumes
 -- nothing.
-use Prim.Native.Nat.{ℕ, suc, _+_, _*_, _<_, _≤_}
+use Prim.Native.Nat.{ℕ, zero, suc, _+_, _*_, _<_, _≤_}
+use native.Mathlib.Nat.{add-zero, not-suc-le-zero, le-of-suc-le-suc}
 use native.Mathlib.Omega.{arith}
 use mathlib.Core.Path.{_≡_, refl, ap, sym, _∙_}
 use mathlib.Core.Bool.{Bool, true, false, cond}
@@ -8,6 +9,7 @@ use mathlib.Core.List.{List, [], _∷_}
 use lib.ListN.{length, getD, set}
 use lib.Seq.{sets, set-comm, set-set}
 use Rattle.model.specs.State.{withPhase, withInputs, withSettings, withErrors, withQueues, withProgress, withReads, withPrograms, isBusy}
+use Rattle.model.specs.Rounds.{withLost}
 use Rattle.model.specs.Settings.{withRegion, withPage, withDefault, withErase}
 use Rattle.model.specs.declared.Phase.{Phase}
 use Rattle.model.specs.declared.Inputs.{Inputs}
@@ -24,10 +26,10 @@ use Rattle.model.specs.declared.Progress.{Progress}
 use Rattle.model.specs.declared.Progress.the-variants.{Idle, Running}
 use Rattle.model.specs.declared.Controller.{Controller}
 use Rattle.registers.specs.Registers.{isFlag, isOn, every, phaseNumber, encoded, standsFor, queueAt, workAt, progressAt, readableKept, regionsOf, infoOf, regionAt, settingAt, regionEncoded}
-use Rattle.registers.specs.Registers.{settingEncoded, putQueue, noProgress, putErrors, putProgress, putRunning, putRegion, putSetting, putErase, putInputs, putFromErrors, putFromPrograms}
+use Rattle.registers.specs.Registers.{settingEncoded, putQueue, noProgress, putErrors, putProgress, putRunning, putRegion, putSetting, putErase, putInputs, putFromPhysical, putFromErrors, putFromPrograms}
 use Rattle.registers.specs.Registers.{putFromReads, putFromProgress, putFromErase, putFromInfo, putFromRegions, putFromInputs, put}
 use Rattle.registers.proofs.Kept.{Alike, itself, later, alike-set, alike-sets, queue-kept, progress-kept, erase-kept, info-kept, regions-kept, plain-kept, head-kept, inputs-kept, rights-kept}
-use Rattle.registers.proofs.Kept.{region-kept, setting-kept, all-but-one, held, Parts, parts, from-inputs, from-regions, from-info, from-erase, from-progress, flag-back, from-errors}
+use Rattle.registers.proofs.Kept.{region-kept, setting-kept, all-but-one, held, Parts, parts, from-inputs, from-regions, from-info, from-erase, from-progress, flag-back, from-errors, from-physical}
 
 -- ---- what is written before a place leaves the numbers from there on
 
@@ -56,6 +58,17 @@ sets-set t at [] i v l = refl
 sets-set t at (w ∷ ws) i v l =
     let ne : at ≡ i → ⊥ = λ e. omega arith in
     sets-set (set t at w) (suc at) ws i v (omega arith) ∙ ap (λ (r : List ℕ). sets r (suc at) ws) (set-comm t at i w v ne)
+
+-- One number of a run that was put, put anew.
+sets-one : (t : List ℕ) (at : ℕ) (ws : List ℕ) (j v : ℕ) → j < length ws → set (sets t at ws) (at + j) v ≡ sets t at (set ws j v)
+sets-one t at [] j v l = absurd (not-suc-le-zero l)
+sets-one t at (w ∷ ws) zero v l =
+    ap (λ (k : ℕ). set (sets (set t at w) (suc at) ws) k v) (add-zero at)
+    ∙ sets-set (set t at w) (suc at) ws at v (omega arith)
+    ∙ ap (λ (r : List ℕ). sets r (suc at) ws) (set-set t at w v)
+sets-one t at (w ∷ ws) (suc j) v l =
+    let next : at + suc j ≡ suc at + j = omega arith in
+    ap (λ (k : ℕ). set (sets (set t at w) (suc at) ws) k v) next ∙ sets-one (set t at w) (suc at) ws j v (le-of-suc-le-suc l)
 
 pub queue-set : (t : List ℕ) (at : ℕ) (q : Queue) (i v : ℕ) → i < at → set (putQueue t at q) i v ≡ putQueue (set t i v) at q
 queue-set t at q i v l =
@@ -95,6 +108,13 @@ at-word (Read o k readable) n = Read o n readable
 at-word (Program o k) n = Program o n
 at-word (Erase o k) n = Erase o n
 
+-- ---- a bank's lost count, whatever controller it belongs to
+
+pub put-lost : (s : List ℕ) (c : Controller) (bank n : ℕ) → length (c .physical .lost) ≡ 2 → bank < 2
+    → put s (withLost c bank n) ≡ set (put s c) (135 + bank) n
+unfolding put putFromInputs putFromRegions putFromInfo putFromErase putFromProgress putFromReads putFromPrograms putFromErrors putFromPhysical
+put-lost s c bank n two l = sym (sets-one _ 135 (c .physical .lost) bank n (omega (arith, two)))
+
 -- ---- errors, queues and progress: all before them stays
 
 module _ (s : List ℕ) (h : encoded s ≡ true) where
@@ -114,39 +134,46 @@ module _ (s : List ℕ) (h : encoded s ≡ true) where
       ∙ ap (λ (l : List ℕ). putFromErase l c) (info-kept p itself)
       ∙ ap (λ (l : List ℕ). putFromProgress l c) (erase-kept p itself)
 
+  -- An error record is put before the lost counts, which stay.
+  lost-kept : {t : List ℕ} (e : Errors) → Alike t s 135 → putFromPhysical (putErrors t e) (standsFor s) ≡ putErrors t e
+  lost-kept e a = from-physical p (alike-set 134 _ (omega arith) (alike-set 133 _ (omega arith) a))
+
   pub put-errors : (e : Errors) → put s (withErrors (standsFor s) e) ≡ putErrors s e
-  unfolding standsFor putFromProgress putFromReads putFromPrograms putFromErrors
+  unfolding standsFor putFromProgress putFromReads putFromPrograms putFromErrors putFromPhysical
   put-errors e =
       before-progress e (standsFor s .queues) (standsFor s .progress)
       ∙ rw (progress-kept {t = s} itself (p .progress), queue-kept {t = s} 99 itself, queue-kept {t = s} 116 itself)
+      (lost-kept e itself)
 
   -- What a start writes.
   pub put-starting : (e : Errors) (r : Progress) → put s (withProgress (withErrors (standsFor s) e) r) ≡ putErrors (putProgress s r) e
-  unfolding standsFor putFromProgress putFromReads putFromPrograms putFromErrors
+  unfolding standsFor putFromProgress putFromReads putFromPrograms putFromErrors putFromPhysical
   put-starting e r =
       before-progress e (standsFor s .queues) r
-      ∙ ap (λ (l : List ℕ). putErrors (putQueue l 116 (queueAt s 116)) e) (queue-kept 99 (alike-progress s r))
-      ∙ ap (λ (l : List ℕ). putErrors l e) (queue-kept 116 (later (omega arith) (alike-progress s r)))
+      ∙ ap (λ (l : List ℕ). putFromPhysical (putErrors (putQueue l 116 (queueAt s 116)) e) (standsFor s)) (queue-kept 99 (alike-progress s r))
+      ∙ ap (λ (l : List ℕ). putFromPhysical (putErrors l e) (standsFor s)) (queue-kept 116 (later (omega arith) (alike-progress s r)))
+      ∙ lost-kept e (later (omega arith) (alike-progress s r))
 
   -- What a whole operation writes: the queue that it used, and its refusal if that is recorded.
-  pub put-completing : (e : Errors) (q : Queues) → length (q .reads .words) ≡ 16
+  pub put-completing : (e : Errors) (q : Queues) → length (q .reads .words) ≡ 16 → length (q .programs .words) ≡ 16
       → put s (withQueues (withErrors (standsFor s) e) q) ≡ putErrors (putQueue (putQueue s 99 (q .reads)) 116 (q .programs)) e
-  unfolding standsFor putFromProgress putFromReads putFromPrograms putFromErrors
-  put-completing e q reads =
+  unfolding standsFor putFromProgress putFromReads putFromPrograms putFromErrors putFromPhysical
+  put-completing e q reads programs =
       before-progress e q (standsFor s .progress)
-      ∙ ap (λ (l : List ℕ). putErrors (putQueue (putQueue l 99 (q .reads)) 116 (q .programs)) e) (progress-kept itself (p .progress))
+      ∙ ap (λ (l : List ℕ). putFromPhysical (putErrors (putQueue (putQueue l 99 (q .reads)) 116 (q .programs)) e) (standsFor s)) (progress-kept itself (p .progress))
+      ∙ lost-kept e (alike-queue 116 (q .programs) programs (omega arith) (alike-queue 99 (q .reads) reads (omega arith) itself))
 
   pub put-reads-recorded : (e : Errors) (q : Queue) → length (q .words) ≡ 16
       → put s (withQueues (withErrors (standsFor s) e) (withReads (standsFor s .queues) q)) ≡ putErrors (putQueue s 99 q) e
   unfolding standsFor
   put-reads-recorded e q long =
-      put-completing e (withReads (standsFor s .queues) q) long
+      put-completing e (withReads (standsFor s .queues) q) long refl
       ∙ ap (λ (l : List ℕ). putErrors l e) (queue-kept 116 (alike-queue 99 q long (omega arith) itself))
 
   -- What RMA writes.
   pub put-closing : (f : Phase) (q : Queues) → length (q .reads .words) ≡ 16 → length (q .programs .words) ≡ 16
       → put s (withPhase (withQueues (standsFor s) q) f) ≡ putQueue (putQueue (set s 1 (phaseNumber f)) 99 (q .reads)) 116 (q .programs)
-  unfolding put putFromInputs putFromRegions putFromInfo putFromErase putFromProgress putFromReads putFromPrograms putFromErrors standsFor
+  unfolding put putFromInputs putFromRegions putFromInfo putFromErase putFromProgress putFromReads putFromPrograms putFromErrors putFromPhysical standsFor
   put-closing f q reads programs =
       let c : Controller = withPhase (withQueues (standsFor s) q) f in
       let a : Alike (set s 1 (phaseNumber f)) s 2 = alike-set 1 (phaseNumber f) (omega arith) itself in
@@ -161,7 +188,7 @@ module _ (s : List ℕ) (h : encoded s ≡ true) where
   -- What a call that moves words writes.
   pub put-moving : (q : Queues) (r : Progress) → length (q .reads .words) ≡ 16 → length (q .programs .words) ≡ 16
       → put s (withProgress (withQueues (standsFor s) q) r) ≡ putQueue (putQueue (putProgress s r) 99 (q .reads)) 116 (q .programs)
-  unfolding putFromProgress putFromReads putFromPrograms putFromErrors
+  unfolding putFromProgress putFromReads putFromPrograms putFromErrors putFromPhysical
   put-moving q r reads programs =
       before-progress (standsFor s .errors) q r
       ∙ from-errors p (alike-queue 116 (q .programs) programs (omega arith) (alike-queue 99 (q .reads) reads (omega arith) (later (omega arith) (alike-progress s r))))
@@ -197,7 +224,7 @@ module _ (s : List ℕ) (h : encoded s ≡ true) where
       put-programs-moving q (progressAt s) long ∙ ap (λ (l : List ℕ). putQueue l 116 q) (progress-kept itself (p .progress))
 
   pub put-phase : (f : Phase) → put s (withPhase (standsFor s) f) ≡ set s 1 (phaseNumber f)
-  unfolding standsFor put putFromInputs putFromRegions putFromInfo putFromErase putFromProgress putFromReads putFromPrograms putFromErrors
+  unfolding standsFor put putFromInputs putFromRegions putFromInfo putFromErase putFromProgress putFromReads putFromPrograms putFromErrors putFromPhysical
   put-phase f = rw (held s 0 refl) (from-inputs p (alike-set 1 (phaseNumber f) (omega arith) itself))
 
   -- ---- the operation in progress moves on
@@ -239,7 +266,7 @@ module _ (s : List ℕ) (h : encoded s ≡ true) where
       alike-set (5 + 4 * i + 3) (g .rights) (omega arith) (alike-set (5 + 4 * i + 2) _ (omega arith) (alike-set (5 + 4 * i + 1) (g .count) (omega arith) (alike-set (5 + 4 * i) (g .first .0) (omega arith) itself)))
 
   pub put-region : (i : ℕ) (g : Region) → i < 8 → put s (withSettings (standsFor s) (withRegion (standsFor s .setup .settings) i g)) ≡ putRegion s i g
-  unfolding standsFor regionsOf putFromRegions putFromInfo putFromErase putFromProgress putFromReads putFromPrograms putFromErrors
+  unfolding standsFor regionsOf putFromRegions putFromInfo putFromErase putFromProgress putFromReads putFromPrograms putFromErrors putFromPhysical
   put-region i g l =
       let c : Controller = withSettings (standsFor s) (withRegion (standsFor s .setup .settings) i g) in
       before-regions (withRegion (standsFor s .setup .settings) i g) refl
@@ -252,7 +279,7 @@ module _ (s : List ℕ) (h : encoded s ≡ true) where
   alike-setting i x j l = alike-set (37 + 2 * i + 1) (x .rights) (omega arith) (alike-set (37 + 2 * i) _ (omega arith) itself)
 
   pub put-page : (i : ℕ) (x : PageSetting) → i < 26 → put s (withSettings (standsFor s) (withPage (standsFor s .setup .settings) i x)) ≡ putSetting s i x
-  unfolding standsFor infoOf putFromRegions putFromInfo putFromErase putFromProgress putFromReads putFromPrograms putFromErrors
+  unfolding standsFor infoOf putFromRegions putFromInfo putFromErase putFromProgress putFromReads putFromPrograms putFromErrors putFromPhysical
   put-page i x l =
       let c : Controller = withSettings (standsFor s) (withPage (standsFor s .setup .settings) i x) in
       before-regions (withPage (standsFor s .setup .settings) i x) refl
@@ -263,7 +290,7 @@ module _ (s : List ℕ) (h : encoded s ≡ true) where
       ∙ from-erase p (alike-setting i x 89 (omega arith))
 
   pub put-default : (r : ℕ) → put s (withSettings (standsFor s) (withDefault (standsFor s .setup .settings) r)) ≡ set s 4 r
-  unfolding put putFromInputs putFromRegions putFromInfo putFromErase putFromProgress putFromReads putFromPrograms putFromErrors
+  unfolding put putFromInputs putFromRegions putFromInfo putFromErase putFromProgress putFromReads putFromPrograms putFromErrors putFromPhysical
   put-default r =
       let c : Controller = withSettings (standsFor s) (withDefault (standsFor s .setup .settings) r) in
       ap (λ (l : List ℕ). putFromInputs l c) (head-kept p)
@@ -271,7 +298,7 @@ module _ (s : List ℕ) (h : encoded s ≡ true) where
       ∙ from-regions p (alike-set 4 r (omega arith) itself)
 
   pub put-inputs : (i : Inputs) → put s (withInputs (standsFor s) i) ≡ putInputs s i
-  unfolding put putFromInputs putFromRegions putFromInfo putFromErase putFromProgress putFromReads putFromPrograms putFromErrors
+  unfolding put putFromInputs putFromRegions putFromInfo putFromErase putFromProgress putFromReads putFromPrograms putFromErrors putFromPhysical
   put-inputs i =
       let c : Controller = withInputs (standsFor s) i in
       ap (λ (l : List ℕ). putFromInputs l c) (head-kept p)
@@ -285,7 +312,7 @@ module _ (s : List ℕ) (h : encoded s ≡ true) where
   flag-kept {t = t} k a h = rw (flag-back (getD s (89 + k) 0) h) (held t (89 + k) (a .same (89 + k) (omega arith)))
 
   pub put-bank : (i : ℕ) (b : Bool) → i < 2 → put s (withSettings (standsFor s) (withErase (standsFor s .setup .settings) i b)) ≡ putErase s i b
-  unfolding standsFor putFromRegions putFromInfo putFromErase putFromProgress putFromReads putFromPrograms putFromErrors
+  unfolding standsFor putFromRegions putFromInfo putFromErase putFromProgress putFromReads putFromPrograms putFromErrors putFromPhysical
   put-bank i b l =
       let c : Controller = withSettings (standsFor s) (withErase (standsFor s .setup .settings) i b) in
       before-regions (withErase (standsFor s .setup .settings) i b) refl

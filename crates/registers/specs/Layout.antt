@@ -3,7 +3,7 @@
 use Prim.Native.Nat.{ℕ, _+_, _*_}
 
 abbrev pub registerCount : ℕ
-registerCount = 135
+registerCount = 137
 
 -- D, the phase, the inputs and the default rights.
 abbrev pub pagesAt : ℕ
@@ -72,3 +72,7 @@ recordedAt = 133
 
 abbrev pub lastAt : ℕ
 lastAt = 134
+
+-- The lost counts of both banks.
+abbrev pub lostFrom : ℕ
+lostFrom = 135

@@ -9,7 +9,7 @@ use lib.Seq.{sets}
 use Rattle.model.specs.Kinds.{isRead, isProgram}
 use Rattle.model.specs.Valid.{all}
 use Rattle.model.specs.State.{resetController}
-use Rattle.registers.specs.Layout.{registerCount, pagesAt, phaseAt, provisionAt, lockedAt, defaultAt, regionFrom, pageFrom, permissionAt, addressAt, countAt, kindAt, partitionAt, typeAt, movedAt, readableAt, runningAt, readsFrom, programsFrom, recordedAt, lastAt}
+use Rattle.registers.specs.Layout.{registerCount, pagesAt, phaseAt, provisionAt, lockedAt, defaultAt, regionFrom, pageFrom, permissionAt, addressAt, countAt, kindAt, partitionAt, typeAt, movedAt, readableAt, runningAt, readsFrom, programsFrom, recordedAt, lastAt, lostFrom}
 use Rattle.model.specs.declared.Phase.{Phase}
 use Rattle.model.specs.declared.Phase.the-variants.{Uninitialised, Ready, Disabled}
 use Rattle.model.specs.declared.Errors.{Errors}
@@ -24,6 +24,7 @@ use Rattle.model.specs.declared.Progress.{Progress}
 use Rattle.model.specs.declared.Progress.the-variants.{Idle, Running}
 use Rattle.model.specs.declared.Inputs.{Inputs}
 use Rattle.model.specs.declared.Setup.{Setup}
+use Rattle.model.specs.declared.Physical.{Physical}
 use Rattle.model.specs.declared.Controller.{Controller}
 
 -- A flag is 0 or 1; it is on unless it is 0.
@@ -114,6 +115,11 @@ errorsAt s = record {
   address = record { 0 = getD s lastAt 0 };
 }
 
+-- ---- the lost counts: any number is one
+
+abbrev pub physicalAt : List ℕ → Physical
+physicalAt s = record { lost = listed (λ k. getD s k 0) lostFrom 2 }
+
 -- ---- the whole state
 
 -- What the look-ups and the checks of an operation look at.
@@ -128,6 +134,7 @@ standsFor s = record {
   errors = errorsAt s;
   queues = record { reads = queueAt s readsFrom; programs = queueAt s programsFrom };
   progress = progressAt s;
+  physical = physicalAt s;
 }
 
 -- Each of them stands for something: a flag is 0 or 1, a byte at most 255, the phase at most 2, a running operation has one
@@ -217,10 +224,16 @@ putProgress s (Running (Erase o moved)) = putRunning s o moved (readableKept s)
 abbrev pub putErrors : List ℕ → Errors → List ℕ
 putErrors s e = set (set s recordedAt (maskOf e)) lastAt (e .address .0)
 
+abbrev pub putPhysical : List ℕ → Physical → List ℕ
+putPhysical s p = sets s lostFrom (p .lost)
+
 -- ---- the registers with a controller put into them: its parts in the order of their places, each with all behind it
 
+unfoldable pub putFromPhysical : List ℕ → Controller → List ℕ
+putFromPhysical s c = putPhysical s (c .physical)
+
 unfoldable pub putFromErrors : List ℕ → Controller → List ℕ
-putFromErrors s c = putErrors s (c .errors)
+putFromErrors s c = putFromPhysical (putErrors s (c .errors)) c
 
 unfoldable pub putFromPrograms : List ℕ → Controller → List ℕ
 putFromPrograms s c = putFromErrors (putQueue s programsFrom (c .queues .programs)) c

@@ -1,9 +1,9 @@
 // The registers: the state as numbers that the caller lends, changed where they lie. Each part is read as the model's own
 // type, and no other crate knows where it lies.
 ghost use mathlib.Core.Path.{_≡_};
-ghost use Prim.Native.Nat.{_<_, _≤_, _%_};
+ghost use Prim.Native.Nat.{_+_, _<_, _≤_, _%_};
 ghost use lib.ListN.{getD, set};
-ghost use Rattle.registers.specs.Layout.{pagesAt, phaseAt, defaultAt, permissionAt, movedAt, readsFrom, programsFrom};
+ghost use Rattle.registers.specs.Layout.{pagesAt, phaseAt, defaultAt, permissionAt, movedAt, readsFrom, programsFrom, lostFrom};
 ghost use Rattle.registers.specs.Registers.{phaseOf, inputsAt, regionAt, settingAt, operationAt, workAt, progressAt, queueAt, errorsAt, isOn, regionEncoded, settingEncoded, progressEncoded, plainEncoded, maskOf, flagOf, phaseNumber, putInputs, putRegion, putSetting, putErase, putQueue, putRunning, putErrors, noProgress, cleared};
 use model::ByteAddress;
 use model::Errors;
@@ -20,7 +20,7 @@ use model::Work;
 
 // ---- where each part lies
 
-pub const COUNT: usize = 135;
+pub const COUNT: usize = 137;
 
 const PAGES: usize = 0;
 
@@ -61,6 +61,8 @@ const PROGRAMS: usize = 116;
 const RECORDED: usize = 133;
 
 const LAST: usize = 134;
+
+const LOST: usize = 135;
 
 // A queue has 16 words, and then their number.
 const LENGTH: usize = WIDE_QUEUE_WORDS;
@@ -139,7 +141,8 @@ pub fn permission(s: &Registers, bank: usize) -> bool
 
 // ---- the operation in progress
 
-fn operation(s: &Registers) -> Operation
+// As it was started. While nothing is in progress, no rule looks at it.
+pub fn operation(s: &Registers) -> Operation
     ensures { λ r. ⌜ r ≡ operationAt (now (s .entry)) ⌝ }
 {
     let kind = (s[KIND] % 256) as u8;
@@ -154,6 +157,13 @@ fn operation(s: &Registers) -> Operation
         address: ByteAddress(address),
         count,
     }
+}
+
+// How many of its words have moved.
+pub fn moved(s: &Registers) -> u32
+    ensures { λ r. ⌜ r ≡ getD (now (s .entry)) movedAt 0 ⌝ }
+{
+    s[MOVED]
 }
 
 fn work(s: &Registers) -> Work
@@ -198,6 +208,15 @@ pub fn errors(s: &Registers) -> Errors
         denied: mask / 512 % 2 == 1,
         address: ByteAddress(address),
     }
+}
+
+// ---- the lost count of a bank
+
+pub fn lost(s: &Registers, bank: usize) -> u32
+    requires { ⌜ bank ≤ 1 ⌝ }
+    ensures { λ r. ⌜ r ≡ getD (now (s .entry)) (lostFrom + bank) 0 ⌝ }
+{
+    s[LOST + bank]
 }
 
 // ---- the queues
@@ -425,6 +444,13 @@ pub fn put_errors(s: &mut Registers, e: Errors)
     let address = e.address;
     s[RECORDED] = mask_of(e);
     s[LAST] = address.0;
+}
+
+pub fn put_lost(s: &mut Registers, bank: usize, count: u32)
+    requires { ⌜ bank ≤ 1 ⌝ }
+    ensures { λ _. ⌜ now (s .exit) ≡ set (now (s .entry)) (lostFrom + bank) count ⌝ }
+{
+    s[LOST + bank] = count;
 }
 
 // Every register is 0, but D.

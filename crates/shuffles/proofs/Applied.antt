@@ -12,7 +12,7 @@ use Rattle.model.specs.State.{stored, flashFits, resetController}
 use Rattle.model.specs.Refusals.{accepts}
 use Rattle.model.specs.Rights.{dataRights, rightsAt, leading, allowedWords, denied}
 use Rattle.model.specs.Checks.{malformed, outOfRange, crossesWindow, operationAnswer}
-use Rattle.model.specs.Valid.{settingsFit, runningFits, valid, validWith}
+use Rattle.model.specs.Valid.{settingsFit, runningFits, physicalFits, valid, validWith}
 use Rattle.model.specs.Errors.{recorded}
 use Rattle.model.specs.Settings.{configured, setDefault, setRegion}
 use Rattle.model.specs.Lifecycle.{reset, initialiseAnswer, initialise}
@@ -93,7 +93,7 @@ record Computed : Type 0 where
 
 -- By computation.
 computed : Computed
-unfolding programmed performed imagePage wordAt totalWords placeOf queueOf dataRights rightsAt leading allowedWords denied malformed outOfRange crossesWindow operationAnswer settingsFit runningFits valid flashFits validWith recorded setDefault configured setRegion reset initialiseAnswer initialise wholeAnswer placesOf planOf
+unfolding programmed performed imagePage wordAt totalWords placeOf queueOf dataRights rightsAt leading allowedWords denied malformed outOfRange crossesWindow operationAnswer settingsFit runningFits physicalFits valid flashFits validWith recorded setDefault configured setRegion reset initialiseAnswer initialise wholeAnswer placesOf planOf
 computed = record {
   begins = refl;
   refused = refl;

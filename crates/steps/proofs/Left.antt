@@ -7,7 +7,7 @@ use mathlib.Core.List.{List}
 use lib.Dec.{eqb, ltb}
 use borrow.Author.Tests.{eqb-false, leb-false}
 use lib.ListN.{length, getD}
-use Rattle.model.specs.State.{Flash, Leaves, withWord, stored}
+use Rattle.model.specs.State.{Flash, Leaves, withWord, stored, operationOf, movedOf}
 use Rattle.model.specs.Words.{allOnes, programmed, changedBits}
 use Rattle.model.specs.Queue.{pushed, popped, oldest}
 use Rattle.model.specs.Refusals.{accepts, readyAnswer, numberOf}
@@ -28,7 +28,6 @@ use Rattle.model.specs.declared.Queue.{Queue}
 use Rattle.model.specs.declared.Controller.{Controller}
 use Rattle.model.proofs.Moving.{Moving, moving, with-valid, with-length, queue-bounds}
 use Rattle.model.proofs.QueueLaws.{push-keeps-its-places, pop-keeps-its-places}
-use Rattle.model.proofs.WorkParts.{operationOf, movedOf}
 use Rattle.model.proofs.StepLaws.{step-unready}
 use Rattle.model.proofs.Accepting.{moved-small, ready-valid, step-idle, step-stalled, step-advances}
 use Rattle.registers.specs.Layout.{pagesAt, readsFrom, programsFrom}

@@ -58,7 +58,7 @@ fn moved(s: &mut Registers, n: usize, k: u32, bits: u32) -> ToldStep
 }
 
 // Whether a step would wait.
-fn stalls(s: &Registers, w: Work) -> bool
+pub fn stalls(s: &Registers, w: Work) -> bool
     ensures { λ r. ⌜ r ≡ stalls (standsFor (now (s .entry)) .queues) w ⌝ }
 {
     match w {

@@ -5,7 +5,7 @@ use mathlib.Core.Bool.{Bool, true, false, cond, _&&_}
 use lib.ListN.{getD}
 use mathlib.Core.List.{List}
 use Rattle.model.specs.Geometry.{pagesFit}
-use Rattle.model.specs.Valid.{valid, settingsFit, all, regionFits, pageFits, rightsFit, errorsFit, queuesFit, progressFits, runningFits}
+use Rattle.model.specs.Valid.{valid, settingsFit, all, regionFits, pageFits, rightsFit, errorsFit, queuesFit, progressFits, physicalFits, runningFits}
 use Rattle.validity.specs.Rest.{restFits}
 use Rattle.model.specs.State.{resetController, isReady}
 use Rattle.model.specs.Refusals.{readyAnswer}
@@ -64,7 +64,7 @@ valid-by s =
     reset-fails (encoded s) c
     ∙ order (plainEncoded s) (progressEncoded s) (every (regionEncoded s) 8) (every (settingEncoded s) 26)
     (all (regionFits (getD s pagesAt 0)) (regionsOf s)) (all pageFits (infoOf s)) (pagesFit (getD s pagesAt 0))
-    (rightsFit (getD s defaultAt 0 % 256)) (errorsFit (c .errors) && (queued && (held && running)))
+    (rightsFit (getD s defaultAt 0 % 256)) (errorsFit (c .errors) && (queued && (held && (physicalFits (c .physical) && running))))
 
 pub valid-holds : (s : List ℕ) → tables s ≡ true → restFits s ≡ valid (decode s)
 valid-holds s h = sym (valid-by s ∙ ap (λ (b : Bool). cond b (restFits s) false) h)

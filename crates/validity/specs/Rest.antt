@@ -4,7 +4,7 @@ use mathlib.Core.Bool.{Bool, _&&_}
 use mathlib.Core.List.{List}
 use Rattle.model.specs.Geometry.{pagesFit}
 use Rattle.model.specs.State.{isReady}
-use Rattle.model.specs.Valid.{rightsFit, errorsFit, queuesFit, progressFits, runningFits}
+use Rattle.model.specs.Valid.{rightsFit, errorsFit, queuesFit, progressFits, physicalFits, runningFits}
 use Rattle.model.specs.declared.Controller.{Controller}
 use Rattle.registers.specs.Registers.{standsFor}
 
@@ -15,7 +15,8 @@ restOf c =
     && (errorsFit (c .errors)
     && (queuesFit (isReady (c .phase)) (c .queues)
     && (progressFits (isReady (c .phase)) (c .progress)
-    && runningFits (c .setup) (c .queues .programs) (c .progress)))))
+    && (physicalFits (c .physical)
+    && runningFits (c .setup) (c .queues .programs) (c .progress))))))
 
 unfoldable pub restFits : List ℕ → Bool
 restFits s = restOf (standsFor s)

@@ -6,11 +6,12 @@ ghost use Prim.Native.Nat.{_+_};
 ghost use lib.ListN.{getD};
 ghost use lib.Dec.{leb};
 ghost use Rattle.model.specs.Refusals.{readyAnswer};
-ghost use Rattle.model.specs.Valid.{all, regionFits, pageFits, queuesFit, progressFits, workFits, runningFits, valid, validWith};
+ghost use Rattle.model.specs.Valid.{all, regionFits, pageFits, queuesFit, progressFits, workFits, physicalFits, runningFits, valid, validWith};
 ghost use Rattle.registers.specs.Layout.{pagesAt};
 ghost use Rattle.registers.specs.Registers.{regionsOf, infoOf, standsFor, decode, every, regionEncoded, settingEncoded};
 ghost use Rattle.validity.specs.Rest.{restFits};
 use model::Answer;
+use model::LOST_LIMIT;
 use model::Progress;
 use model::QUEUE_WORDS;
 use model::Work;
@@ -114,10 +115,19 @@ fn running_fits(s: &Registers, p: Progress) -> bool
     }
 }
 
+fn physical_fits(s: &Registers) -> bool
+    ensures { λ r. ⌜ r ≡ physicalFits (standsFor (now (s .entry)) .physical) ⌝ }
+{
+    let first = registers::lost(s, 0);
+    let second = registers::lost(s, 1);
+    (first <= LOST_LIMIT) & (second <= LOST_LIMIT)
+}
+
 // All but the tables of regions and pages.
 fn rest_fits(s: &Registers) -> bool
     ensures { λ r. ⌜ r ≡ restFits (now (s .entry)) ⌝ }
 {
+    let physical = physical_fits(s);
     let phase = registers::phase(s);
     let progress = registers::progress(s);
     let errors = registers::errors(s);
@@ -128,7 +138,7 @@ fn rest_fits(s: &Registers) -> bool
     let queued = queues_fit(s, ready);
     let held = progress_fits(ready, progress);
     let running = running_fits(s, progress);
-    pages & (other & (told & (queued & (held & running))))
+    pages & (other & (told & (queued & (held & (physical & running)))))
 }
 
 pub fn valid(s: &Registers) -> bool

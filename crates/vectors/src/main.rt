@@ -1,4 +1,4 @@
-// The bench sheet of document 01 through the public calls, in the sheet's order, one line a case.
+// The bench sheet of document 01 through the public calls, in the sheet's order, one line a case; then rounds (document 02, L1).
 // D = 16 and all rights given unless a line says otherwise. Images start as ones, and zeros are programmed.
 mod cases;
 mod drive;
@@ -8,6 +8,7 @@ mod images;
 mod print;
 mod rights;
 mod spans;
+mod turns;
 
 use given::data;
 use registers::Registers;
@@ -34,4 +35,5 @@ fn main() {
     rights::seeds_locked(&s);
     erases::erases(&s);
     no_kind(&s);
+    turns::turns(&s);
 }

@@ -1,10 +1,10 @@
-//! Between the numbers of the C interface and the second program's state and
-//! arguments.
+//! Between the numbers of the C interface and the second program's state,
+//! arguments and answers.
 
 use super::flat;
 use crate::model::{
-    self, Controller, InProgress, InfoSetting, Operation, Phase, Queue, Region, BANK_ERASE,
-    PAGE_ERASE, PROGRAM, READ,
+    self, Controller, InProgress, InfoSetting, Operation, Phase, Progress, Queue, Region, Rounded,
+    Stepped, Turn, WordGiven, BANK_ERASE, PAGE_ERASE, PROGRAM, READ,
 };
 
 /// The kinds that a record holds: 5, 7, 8 and 9.
@@ -33,6 +33,7 @@ pub fn to_reference(c: &flat::Controller) -> Option<Controller> {
         read_queue: queue(c.read_queue),
         program_queue: queue(c.program_queue),
         in_progress: in_progress(c.progress)?,
+        lost: c.lost_turns,
     })
 }
 
@@ -152,6 +153,7 @@ pub fn from_reference(c: &Controller) -> flat::Controller {
         program_queue: flat_queue(c.program_queue),
         recorded: c.recorded,
         last_address: c.last_address,
+        lost_turns: c.lost,
     }
 }
 
@@ -229,5 +231,61 @@ pub fn asked_setting(setting: flat::PageSetting) -> InfoSetting {
     InfoSetting {
         on: asked_flag(setting.on),
         rights: asked_byte(setting.rights),
+    }
+}
+
+// -- answers -------------------------------------------------------------------
+
+impl From<Stepped> for flat::Stepped {
+    fn from(given: Stepped) -> Self {
+        flat::Stepped {
+            answer: given.refusal.into(),
+            movement: match given.progress {
+                None => flat::MOVEMENT_NONE,
+                Some(Progress::Moved) => flat::MOVEMENT_MOVED,
+                Some(Progress::Finished) => flat::MOVEMENT_FINISHED,
+                Some(Progress::Waiting) => flat::MOVEMENT_STALLED,
+            },
+            bits: given.bits,
+        }
+    }
+}
+
+impl From<WordGiven> for flat::Fetched {
+    fn from(given: WordGiven) -> Self {
+        flat::Fetched {
+            answer: given.refusal.into(),
+            word: given.word,
+        }
+    }
+}
+
+/// A side that is not served is answered 0; a step that waits for its turn is stalled.
+impl From<Rounded> for flat::Rounded {
+    fn from(given: Rounded) -> Self {
+        let (host_turn, host) = side(given.host, flat::Fetched::default());
+        let stalled = flat::Stepped {
+            movement: flat::MOVEMENT_STALLED,
+            ..flat::Stepped::default()
+        };
+        let (step_turn, step) = side(given.step, stalled);
+        flat::Rounded {
+            host_turn,
+            host_answer: host.answer,
+            word: host.word,
+            step_turn,
+            step_answer: step.answer,
+            movement: step.movement,
+            bits: step.bits,
+        }
+    }
+}
+
+/// The number of a side's turn, and what it is told.
+fn side<T: Into<F>, F: Default>(turn: Turn<T>, waiting: F) -> (u32, F) {
+    match turn {
+        Turn::Unasked => (flat::TURN_UNASKED, F::default()),
+        Turn::Waiting => (flat::TURN_WAITING, waiting),
+        Turn::Served(given) => (flat::TURN_SERVED, given.into()),
     }
 }

@@ -51,7 +51,7 @@ pub fn differences(a: &Controller, b: &Controller) -> Vec<(&'static str, u32, u3
 
 fn names() -> Vec<String> {
     let plain = |list: &[&str]| list.iter().map(|name| name.to_string()).collect();
-    let parts: [Vec<String>; 8] = [
+    let parts: [Vec<String>; 9] = [
         plain(&[
             "data_pages",
             "phase",
@@ -79,6 +79,7 @@ fn names() -> Vec<String> {
         queue("read_queue"),
         queue("program_queue"),
         plain(&["recorded", "last_address"]),
+        of_each("lost_turns", flat::BANKS, &[""]),
     ];
     parts.concat()
 }

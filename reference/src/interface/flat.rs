@@ -26,6 +26,10 @@ pub const MOVEMENT_MOVED: u32 = 1;
 pub const MOVEMENT_FINISHED: u32 = 2;
 pub const MOVEMENT_STALLED: u32 = 3;
 
+pub const TURN_UNASKED: u32 = 0;
+pub const TURN_WAITING: u32 = 1;
+pub const TURN_SERVED: u32 = 2;
+
 const NUMBER_BYTES: usize = size_of::<u32>();
 
 /// Declares a struct of the header; asserts how many numbers it has and which
@@ -75,7 +79,7 @@ header_struct!(Progress, numbers 8, {
 });
 
 /// The numbers of a controller.
-pub const NUMBERS: usize = 135;
+pub const NUMBERS: usize = 137;
 
 header_struct!(Controller, numbers NUMBERS, {
     0 data_pages: u32,
@@ -91,6 +95,7 @@ header_struct!(Controller, numbers NUMBERS, {
     116 program_queue: Queue,
     133 recorded: u32,
     134 last_address: u32,
+    135 lost_turns: [u32; BANKS],
 });
 
 impl Controller {
@@ -135,4 +140,14 @@ header_struct!(Completed, numbers 2, {
 header_struct!(Viewed, numbers 2, {
     0 answer: u32,
     1 start: u32,
+});
+
+header_struct!(Rounded, numbers 7, {
+    0 host_turn: u32,
+    1 host_answer: u32,
+    2 word: u32,
+    3 step_turn: u32,
+    4 step_answer: u32,
+    5 movement: u32,
+    6 bits: u32,
 });

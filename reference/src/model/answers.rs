@@ -1,4 +1,5 @@
-//! 01, "When the desk says no": what a call gives beside its refusal number.
+//! 01, "When the desk says no": what a call gives beside its refusal number;
+//! 02, L1: what a round tells each side.
 
 pub const SEED_WORDS: usize = 8;
 
@@ -38,6 +39,28 @@ pub struct WholeDone {
     pub refusal: u8,
     /// Bits changed in flash.
     pub bits: u32,
+}
+
+/// What one side of a round is told.
+#[derive(Clone, Copy, Debug, PartialEq, Eq)]
+pub enum Turn<T> {
+    Unasked,
+    Waiting,
+    /// The answer that the side's own call gives.
+    Served(T),
+}
+
+/// A side that asks is served.
+impl<T> From<Option<T>> for Turn<T> {
+    fn from(answer: Option<T>) -> Self {
+        answer.map_or(Turn::Unasked, Turn::Served)
+    }
+}
+
+#[derive(Clone, Copy, Debug, PartialEq, Eq)]
+pub struct Rounded {
+    pub host: Turn<WordGiven>,
+    pub step: Turn<Stepped>,
 }
 
 /// Bus words `start .. start + length` of the lent image; refused: 0 and 0.

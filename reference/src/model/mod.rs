@@ -1,4 +1,5 @@
-//! Document 01, "Exact rules for the build", as one plain program.
+//! Document 01, "Exact rules for the build", with the change requests of 02 that
+//! have landed (L1), as one plain program.
 //!
 //! Every public call takes any controller, also a broken one, and gives the
 //! refusal number of 01 (0 for none) with whatever else the call hands out.
@@ -13,6 +14,7 @@ mod operation_checks;
 mod queue;
 mod refusals;
 mod rights;
+mod rounds;
 mod settings;
 mod state;
 mod steps;
@@ -27,6 +29,7 @@ pub use operation::*;
 pub use queue::*;
 pub use refusals::*;
 pub use rights::*;
+pub use rounds::*;
 pub use settings::*;
 pub use state::*;
 pub use steps::*;

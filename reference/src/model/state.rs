@@ -49,6 +49,20 @@ pub enum InProgress {
     },
 }
 
+impl InProgress {
+    /// The operation, and how many words it has moved.
+    pub(super) fn operation(self) -> Option<(Operation, u32)> {
+        match self {
+            InProgress::Nothing => None,
+            InProgress::Read {
+                operation, moved, ..
+            }
+            | InProgress::Program { operation, moved }
+            | InProgress::Erase { operation, moved } => Some((operation, moved)),
+        }
+    }
+}
+
 /// The default has every field off or 0, so its D is wrong: reset it first.
 #[derive(Clone, Debug, Default, PartialEq, Eq)]
 pub struct Controller {
@@ -69,4 +83,6 @@ pub struct Controller {
     pub read_queue: Queue,
     pub program_queue: Queue,
     pub in_progress: InProgress,
+    /// Of each bank, the contests that the controller has lost since it last won one.
+    pub lost: [u32; BANKS as usize],
 }

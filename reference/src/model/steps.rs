@@ -43,6 +43,9 @@ pub fn step(c: &mut Controller, image: &mut [u32]) -> Stepped {
     if let Err(refusal) = check_ready(c, image) {
         return step_refused(refusal);
     }
+    if waits(c) {
+        return step_waits();
+    }
     match c.in_progress {
         InProgress::Nothing => step_refused(UNEXPECTED),
         InProgress::Read {
@@ -55,6 +58,15 @@ pub fn step(c: &mut Controller, image: &mut [u32]) -> Stepped {
     }
 }
 
+/// A read waits for room in its queue and a program for a word; an erase never waits.
+pub(super) fn waits(c: &Controller) -> bool {
+    match c.in_progress {
+        InProgress::Read { .. } => c.read_queue.length == QUEUE_WORDS,
+        InProgress::Program { .. } => c.program_queue.length == 0,
+        InProgress::Nothing | InProgress::Erase { .. } => false,
+    }
+}
+
 /// A blank read delivers ones and touches no page.
 fn step_read(
     c: &mut Controller,
@@ -63,9 +75,6 @@ fn step_read(
     moved: u32,
     readable: u32,
 ) -> Stepped {
-    if c.read_queue.length == QUEUE_WORDS {
-        return step_waits();
-    }
     let word = if moved < readable {
         image[moving_place(c.data_pages, &operation, moved)]
     } else {
@@ -87,9 +96,6 @@ fn step_program(
     operation: Operation,
     moved: u32,
 ) -> Stepped {
-    if c.program_queue.length == 0 {
-        return step_waits();
-    }
     let place = moving_place(c.data_pages, &operation, moved);
     let old = image[place];
     let new = old & c.program_queue.take_oldest();

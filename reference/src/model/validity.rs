@@ -6,6 +6,7 @@ use super::operation_checks::operation_refusal;
 use super::queue::{Queue, QUEUE_WORDS};
 use super::refusals::{bit, CROSSES_WINDOW, DENIED, MALFORMED, NONE, OUT_OF_RANGE};
 use super::rights::ALL_RIGHTS;
+use super::rounds::MOST_LOST;
 use super::state::{Controller, InProgress, Phase, Region};
 
 /// The part of check 1 that needs no image.
@@ -15,6 +16,7 @@ pub fn is_valid(c: &Controller) -> bool {
         && record_is_valid(c)
         && queues_are_valid(c)
         && in_progress_is_valid(c)
+        && lost_is_valid(c)
 }
 
 /// Settings that are off must pass 13 as well.
@@ -80,6 +82,11 @@ fn readable_is_valid(c: &Controller, operation: &Operation, readable: u32) -> bo
         DENIED => readable == 0,
         _ => false,
     }
+}
+
+/// 02, L1: a count over 5 isn't ours.
+fn lost_is_valid(c: &Controller) -> bool {
+    c.lost.iter().all(|lost| *lost <= MOST_LOST)
 }
 
 /// The words pushed are those moved and those still queued.

@@ -1,11 +1,11 @@
 //! 01, "Who may touch which page" and "When the desk says no": rights and checks.
 
-use super::words::{erased, INFO_PAGES, INFO_TYPES, PAGE_BYTES, WORD_BYTES};
+use super::words::{erased, image_words, INFO_PAGES, INFO_TYPES, PAGE_BYTES, WORD_BYTES};
 use crate::model::{
     Controller, InProgress, Operation, Phase, Region, ALL_RIGHTS, BANK_ERASE, CREATOR_PAGE,
-    CROSSES_WINDOW, DATA, DENIED, DISABLED, INFORMATION, MALFORMED, MAX_COUNT, NONE, OUT_OF_RANGE,
-    OWNER_PAGE, PAGE_ERASE, PROGRAM, QUEUE_WORDS, READ, RIGHT_ERASE, RIGHT_PROGRAM, RIGHT_READ,
-    UNINITIALISED,
+    CROSSES_WINDOW, DATA, DENIED, DISABLED, INFORMATION, INVALID, MALFORMED, MAX_COUNT, MOST_LOST,
+    NONE, OUT_OF_RANGE, OWNER_PAGE, PAGE_ERASE, PROGRAM, QUEUE_WORDS, READ, RIGHT_ERASE,
+    RIGHT_PROGRAM, RIGHT_READ, UNINITIALISED,
 };
 
 const WINDOW_BYTES: u32 = 64;
@@ -17,6 +17,14 @@ pub(super) fn not_ready(c: &Controller) -> Option<u8> {
         Phase::Uninitialised => Some(UNINITIALISED),
         Phase::Ready => None,
     }
+}
+
+/// Checks 1, 2 and 3 of a call that is lent an image.
+pub(super) fn not_ready_with(c: &Controller, image: &[u32]) -> Option<u8> {
+    if !valid(c) || image.len() != image_words(c.data_pages) {
+        return Some(INVALID);
+    }
+    not_ready(c)
 }
 
 /// Check 1, but for the image.
@@ -33,6 +41,7 @@ pub(super) fn valid(c: &Controller) -> bool {
         && (c.recorded != 0 || c.last_address == 0)
         && queues.iter().all(|length| *length <= QUEUE_WORDS)
         && (c.phase == Phase::Ready || idle)
+        && c.lost.iter().all(|lost| *lost <= MOST_LOST)
         && valid_progress(c)
 }
 

@@ -1,5 +1,5 @@
 //! The calls that `speed` measures, as plain Rust on the second program's state:
-//! every check of document 01, made once in a call, and the words of a whole
+//! every check of documents 01 and 02, made once in a call, and the words of a whole
 //! operation moved page by page.
 //!
 //! It is there to be measured against; what is compared call by call with the
@@ -7,6 +7,7 @@
 
 mod checks;
 mod queue;
+mod rounds;
 mod words;
 
 use crate::model::{
@@ -14,9 +15,11 @@ use crate::model::{
     DENIED, INVALID, MALFORMED, NONE, ONES, OUT_OF_RANGE, PROGRAM, QUEUE_EMPTY, QUEUE_FULL,
     QUEUE_WORDS, READ, RIGHT_READ, SHORT_BUFFER, UNEXPECTED,
 };
-use checks::{counts, data_rights, not_ready, operation_refusal, valid};
+use checks::{counts, data_rights, not_ready, not_ready_with, operation_refusal, valid};
 use queue::{add, take_oldest};
-use words::{erase, erased, image_words, place, program, put, read, PAGE_BYTES, WORD_BYTES};
+use words::{erase, erased, place, program, put, read, PAGE_BYTES, WORD_BYTES};
+
+pub use rounds::round;
 
 pub fn start(c: &mut Controller, operation: Operation) -> u8 {
     if !valid(c) {
@@ -54,23 +57,28 @@ pub fn start(c: &mut Controller, operation: Operation) -> u8 {
 }
 
 pub fn step(c: &mut Controller, image: &mut [u32]) -> Stepped {
-    let refused = |refusal| Stepped {
+    match not_ready_with(c, image) {
+        Some(refusal) => step_refused(refusal),
+        None => move_word(c, image),
+    }
+}
+
+fn step_refused(refusal: u8) -> Stepped {
+    Stepped {
         refusal,
         ..Stepped::default()
-    };
-    if !valid(c) || image.len() != image_words(c.data_pages) {
-        return refused(INVALID);
     }
-    if let Some(refusal) = not_ready(c) {
-        return refused(refusal);
-    }
+}
+
+/// A step of a controller that is ready.
+fn move_word(c: &mut Controller, image: &mut [u32]) -> Stepped {
     let d = c.data_pages;
     let waiting = Stepped {
         progress: Some(Progress::Waiting),
         ..Stepped::default()
     };
     let (finished, bits) = match &mut c.in_progress {
-        InProgress::Nothing => return refused(UNEXPECTED),
+        InProgress::Nothing => return step_refused(UNEXPECTED),
         InProgress::Read {
             operation,
             moved,
@@ -139,12 +147,11 @@ pub fn push(c: &mut Controller, word: u32) -> u8 {
 }
 
 pub fn pop(c: &mut Controller) -> WordGiven {
-    let refused = |refusal| WordGiven { refusal, word: 0 };
     if !valid(c) {
-        return refused(INVALID);
+        return word_refused(INVALID);
     }
     if c.read_queue.length == 0 {
-        return refused(QUEUE_EMPTY);
+        return word_refused(QUEUE_EMPTY);
     }
     WordGiven {
         refusal: NONE,
@@ -159,10 +166,7 @@ pub fn whole(
     buffer: &mut [u32],
 ) -> WholeDone {
     let done = |refusal, bits| WholeDone { refusal, bits };
-    if !valid(c) || image.len() != image_words(c.data_pages) {
-        return done(INVALID, 0);
-    }
-    if let Some(refusal) = not_ready(c) {
+    if let Some(refusal) = not_ready_with(c, image) {
         return done(refusal, 0);
     }
     let queued = c.read_queue.length + c.program_queue.length;
@@ -197,21 +201,26 @@ pub fn whole(
 }
 
 pub fn host_read(c: &Controller, image: &[u32], address: u32) -> WordGiven {
-    let refused = |refusal| WordGiven { refusal, word: 0 };
-    if !valid(c) || image.len() != image_words(c.data_pages) {
-        return refused(INVALID);
+    match not_ready_with(c, image) {
+        Some(refusal) => word_refused(refusal),
+        None => fetch(c, image, address),
     }
-    if let Some(refusal) = not_ready(c) {
-        return refused(refusal);
-    }
+}
+
+fn word_refused(refusal: u8) -> WordGiven {
+    WordGiven { refusal, word: 0 }
+}
+
+/// A host read of a controller that is ready.
+fn fetch(c: &Controller, image: &[u32], address: u32) -> WordGiven {
     if !address.is_multiple_of(WORD_BYTES) {
-        return refused(MALFORMED);
+        return word_refused(MALFORMED);
     }
     if address >= 2 * c.data_pages * PAGE_BYTES {
-        return refused(OUT_OF_RANGE);
+        return word_refused(OUT_OF_RANGE);
     }
     if data_rights(c, address / PAGE_BYTES) & RIGHT_READ == 0 {
-        return refused(DENIED);
+        return word_refused(DENIED);
     }
     WordGiven {
         refusal: NONE,

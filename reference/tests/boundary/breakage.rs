@@ -33,6 +33,7 @@ fn breaking(field: &str) -> Option<(Controller, u32)> {
         "length" => (programming(), 17),
         "recorded" => (ready(), 1 << 6),
         "last_address" => (ready(), 4),
+        "lost_turns" => (ready(), 6),
         "words" => return None,
         _ => panic!("no breakage for {field}"),
     };
@@ -119,6 +120,17 @@ fn every_other_number_in_phase_and_progress_breaks_the_state() {
         assert_eq!(partition == 0, value <= 1, "partition {value}");
         let info_type = answer("progress.operation.info_type");
         assert_eq!(info_type == 0, value == 0 || value == 2, "type {value}");
+    }
+}
+
+/// They are plain numbers: 6 breaks the state as 256 does.
+#[test]
+fn every_lost_count_over_5_breaks_the_state() {
+    for field in ["lost_turns[0]", "lost_turns[1]"] {
+        for value in values() {
+            let answer = cleared(with(&programming(), field, value));
+            assert_eq!(answer == 0, value <= 5, "{field} = {value}");
+        }
     }
 }
 

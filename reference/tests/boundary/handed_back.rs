@@ -13,7 +13,7 @@ fn mark(place: usize) -> u32 {
 /// Every call that may change a controller, refused with 1 in an invalid state, and what it leaves.
 fn refused_calls(c: Controller) -> Vec<(&'static str, u32, Controller)> {
     type Refused = fn(&mut Controller) -> u32;
-    let list: [(&str, Refused); 15] = [
+    let list: [(&str, Refused); 17] = [
         ("reset", |c| calls::reset(c, 0)),
         ("inputs", |c| calls::set_inputs(c, 1, 1)),
         ("region", |c| calls::set_region(c, 0, Region::default())),
@@ -34,6 +34,12 @@ fn refused_calls(c: Controller) -> Vec<(&'static str, u32, Controller)> {
         }),
         ("pop", |c| calls::pop(c).answer),
         ("host read", |c| calls::host_read(c, &image(), 0).answer),
+        ("round, host", |c| {
+            calls::round(c, &mut image(), 1, 0, 1).host_answer
+        }),
+        ("round, step", |c| {
+            calls::round(c, &mut image(), 1, 0, 1).step_answer
+        }),
     ];
     let told = |(name, call): (_, Refused)| {
         let (answer, after) = left(c, call);
@@ -82,13 +88,15 @@ fn all_fields_at_once_come_back() {
     assert_handed_back(c);
 }
 
-/// A right over 255 alone is enough, in a state that is valid without it.
+/// A right over 255 or a lost count over 5 alone is enough, in a state that is valid without it.
 #[test]
-fn large_rights_come_back() {
+fn large_rights_and_counts_come_back() {
     for field in [
         "default_rights",
         "regions[3].rights",
         "info_pages[25].rights",
+        "lost_turns[0]",
+        "lost_turns[1]",
     ] {
         for value in [256, 263, 1 << 31, u32::MAX] {
             assert_handed_back(with(&ready(), field, value));
@@ -122,6 +130,7 @@ fn every_field_is_in_the_list() {
     assert_eq!(named("read_queue.length"), c.read_queue.length);
     assert_eq!(named("program_queue.words[0]"), c.program_queue.words[0]);
     assert_eq!(named("last_address"), c.last_address);
+    assert_eq!(named("lost_turns[1]"), c.lost_turns[1]);
 }
 
 /// Refusals of a valid state keep what no rule looks at, too.

@@ -8,4 +8,5 @@ mod helpers;
 mod meaning;
 mod progress;
 mod results;
+mod rounds;
 mod settings;

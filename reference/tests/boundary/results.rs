@@ -74,6 +74,8 @@ fn lengths_of_image_and_buffer_arrive() {
         assert_eq!(calls::view(&ready(), lent, 0).answer, 1);
         assert_eq!(calls::initialise(&mut uninitialised(), lent).answer, 1);
         assert_eq!(calls::rma(&mut ready(), lent), 1);
+        let told = calls::round(&mut ready(), lent, 1, 0, 1);
+        assert_eq!((told.host_answer, told.step_answer), (1, 1));
     }
     flash.push(0);
     assert_eq!(calls::host_read(&ready(), &flash, 0).answer, 1);

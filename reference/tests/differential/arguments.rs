@@ -1,8 +1,9 @@
 //! Arguments of calls: mostly sensible and near a border, sometimes nonsense.
 
-use crate::layout::{pages_of_type, INFO_PAGES, PAGE_BYTES, PAGE_WORDS};
+use crate::calls::AskedInRound;
+use crate::layout::{bank, next_address, pages_of_type, INFO_PAGES, PAGE_BYTES, PAGE_WORDS};
 use crate::rng::Rng;
-use reference::interface::flat;
+use reference::interface::{flat, from_reference};
 use reference::model::Controller;
 
 /// Draws arguments that suit a state.
@@ -181,6 +182,27 @@ impl Arguments<'_> {
     pub fn host_address(&mut self) -> u32 {
         let page = self.data_page();
         self.address(page)
+    }
+
+    /// Each side asks in most cases.
+    pub fn round(&mut self) -> AskedInRound {
+        AskedInRound {
+            host_asks: self.flag() | u32::from(self.rng.percent(60)),
+            host_address: self.round_address(),
+            step_asks: self.flag() | u32::from(self.rng.percent(60)),
+        }
+    }
+
+    /// In 2 of 3 in the bank of the next word, so that the host and the step compete.
+    fn round_address(&mut self) -> u32 {
+        let address = self.host_address();
+        let progress = from_reference(self.state).progress;
+        if progress.running == 0 || self.rng.below(3) == 0 {
+            return address;
+        }
+        let bank_bytes = self.data_pages() * PAGE_BYTES;
+        let bank = bank(self.data_pages(), next_address(&progress)) as u32;
+        bank * bank_bytes + address % bank_bytes
     }
 
     pub fn view_page(&mut self) -> u32 {

@@ -167,7 +167,7 @@ impl Bench {
     ) -> compare::Compared {
         let (model, second) = (&self.model_memory, &self.second_memory);
         let ends = match call {
-            Call::Step { .. } => outcome.movement == flat::MOVEMENT_FINISHED,
+            Call::Step { .. } | Call::Round { .. } => outcome.movement == flat::MOVEMENT_FINISHED,
             Call::Run { .. } | Call::Rma { .. } => true,
             _ => false,
         };
@@ -175,7 +175,9 @@ impl Bench {
             return compare::memories(model, second);
         }
         match call {
-            Call::Step { .. } => compare::part(model, second, page_at_work(before)),
+            Call::Step { .. } | Call::Round { .. } if outcome.movement != flat::MOVEMENT_NONE => {
+                compare::part(model, second, page_at_work(before))
+            }
             Call::View { .. } => compare::part(model, second, outcome.view.clone()),
             _ => Ok(()),
         }

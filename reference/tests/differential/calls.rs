@@ -1,4 +1,4 @@
-//! The calls of document 01 with their arguments, made on the proved model
+//! The calls of documents 01 and 02 with their arguments, made on the proved model
 //! through its C interface and on the second program.
 
 use crate::layout::PAGE_WORDS;
@@ -6,7 +6,7 @@ use crate::rng::Rng;
 use reference::interface::{
     asked_byte, asked_flag, asked_operation, asked_region, asked_setting, calls as library, flat,
 };
-use reference::model::{self, Controller, Progress, INVALID};
+use reference::model::{self, Controller};
 use std::ops::Range;
 
 /// Image lengths are in bus words; a buffer holds what its seed gives before the call.
@@ -64,9 +64,21 @@ pub enum Call {
         page: u32,
         image_words: usize,
     },
+    Round {
+        asked: AskedInRound,
+        image_words: usize,
+    },
     Rma {
         image_words: usize,
     },
+}
+
+/// The address of a host that does not ask is given as well.
+#[derive(Clone, Copy, Debug)]
+pub struct AskedInRound {
+    pub host_asks: u32,
+    pub host_address: u32,
+    pub step_asks: u32,
 }
 
 impl Call {
@@ -112,6 +124,7 @@ impl Memory {
 /// The answer number and all values of a call; what it does not give is 0.
 #[derive(Clone, Debug, Default, PartialEq, Eq)]
 pub struct Outcome {
+    /// Of a round its step's, or its host's if no step is asked.
     pub answer: u32,
     pub word: u32,
     pub bits: u32,
@@ -119,6 +132,8 @@ pub struct Outcome {
     pub seeds: flat::Seeds,
     /// The words of the image that a view shows.
     pub view: Range<usize>,
+    /// All that a round tells.
+    pub round: flat::Rounded,
 }
 
 impl Outcome {
@@ -146,6 +161,9 @@ impl Outcome {
         }
         if self.view != (0..0) {
             text += &format!(", view {:?}", self.view);
+        }
+        if self.round != flat::Rounded::default() {
+            text += &format!(", {:?}", self.round);
         }
         text
     }
@@ -190,15 +208,7 @@ fn on_model_with_values(call: &Call, c: &mut flat::Controller, memory: &mut Memo
                 ..Outcome::default()
             }
         }
-        Call::Step { image_words } => {
-            let given = library::step(c, memory.image(image_words));
-            Outcome {
-                answer: given.answer,
-                movement: given.movement,
-                bits: given.bits,
-                ..Outcome::default()
-            }
-        }
+        Call::Step { image_words } => stepped(library::step(c, memory.image(image_words))),
         Call::Run {
             operation,
             image_words,
@@ -221,7 +231,23 @@ fn on_model_with_values(call: &Call, c: &mut flat::Controller, memory: &mut Memo
         Call::View { page, image_words } => {
             viewed(library::view(c, memory.image(image_words), page))
         }
+        Call::Round { asked, image_words } => rounded(library::round(
+            c,
+            memory.image(image_words),
+            asked.host_asks,
+            asked.host_address,
+            asked.step_asks,
+        )),
         _ => unreachable!("it hands out its answer alone"),
+    }
+}
+
+fn stepped(given: flat::Stepped) -> Outcome {
+    Outcome {
+        answer: given.answer,
+        movement: given.movement,
+        bits: given.bits,
+        ..Outcome::default()
     }
 }
 
@@ -244,15 +270,28 @@ fn viewed(given: flat::Viewed) -> Outcome {
     }
 }
 
-/// None is a state that encodes nothing: only reset takes it.
+fn rounded(given: flat::Rounded) -> Outcome {
+    let step_asked = given.step_turn != flat::TURN_UNASKED;
+    Outcome {
+        answer: if step_asked {
+            given.step_answer
+        } else {
+            given.host_answer
+        },
+        movement: given.movement,
+        round: given,
+        ..Outcome::default()
+    }
+}
+
+/// None is a state that encodes nothing: only reset takes it, and every other
+/// call finds it as invalid as the default is.
 pub fn on_second(call: &Call, state: &mut Option<Controller>, memory: &mut Memory) -> Outcome {
     if let Call::Reset { data_pages } = *call {
         return reset_any(state, data_pages);
     }
-    let Some(c) = state else {
-        refill(call, memory);
-        return Outcome::answer(INVALID);
-    };
+    let mut invalid = Controller::default();
+    let c = state.as_mut().unwrap_or(&mut invalid);
     match *call {
         Call::SetInputs {
             provision_enabled,
@@ -294,7 +333,7 @@ pub fn on_second(call: &Call, state: &mut Option<Controller>, memory: &mut Memor
 fn on_second_with_values(call: &Call, c: &mut Controller, memory: &mut Memory) -> Outcome {
     match *call {
         Call::Initialise { image_words } => seeded(model::initialise(c, memory.image(image_words))),
-        Call::Step { image_words } => stepped(model::step(c, memory.image(image_words))),
+        Call::Step { image_words } => stepped(model::step(c, memory.image(image_words)).into()),
         Call::Run {
             operation,
             image_words,
@@ -308,17 +347,22 @@ fn on_second_with_values(call: &Call, c: &mut Controller, memory: &mut Memory) -
                 ..Outcome::answer(given.refusal)
             }
         }
-        Call::Pop => word_given(model::pop(c)),
+        Call::Pop => fetched(model::pop(c).into()),
         Call::HostRead {
             address,
             image_words,
-        } => word_given(model::host_read(c, memory.image(image_words), address)),
+        } => fetched(model::host_read(c, memory.image(image_words), address).into()),
         Call::View { page, image_words } => {
             let given = model::view(c, memory.image(image_words), page);
             Outcome {
                 view: given.start..given.start + given.length,
                 ..Outcome::answer(given.refusal)
             }
+        }
+        Call::Round { asked, image_words } => {
+            let host = asked_flag(asked.host_asks).then_some(asked.host_address);
+            let steps = asked_flag(asked.step_asks);
+            rounded(model::round(c, memory.image(image_words), host, steps).into())
         }
         _ => unreachable!("it hands out its answer alone"),
     }
@@ -334,13 +378,6 @@ fn reset_any(state: &mut Option<Controller>, data_pages: u32) -> Outcome {
     Outcome::answer(answer)
 }
 
-/// The buffer is filled before the call, whatever the call answers.
-fn refill(call: &Call, memory: &mut Memory) {
-    if let Call::Run { buffer_seed, .. } = *call {
-        memory.lend(0, 0, buffer_seed);
-    }
-}
-
 fn seeded(given: model::Initialised) -> Outcome {
     Outcome {
         seeds: flat::Seeds {
@@ -348,26 +385,6 @@ fn seeded(given: model::Initialised) -> Outcome {
             owner: given.owner_seed,
             given: given.seeds_given.into(),
         },
-        ..Outcome::answer(given.refusal)
-    }
-}
-
-fn stepped(given: model::Stepped) -> Outcome {
-    Outcome {
-        movement: match given.progress {
-            None => flat::MOVEMENT_NONE,
-            Some(Progress::Moved) => flat::MOVEMENT_MOVED,
-            Some(Progress::Finished) => flat::MOVEMENT_FINISHED,
-            Some(Progress::Waiting) => flat::MOVEMENT_STALLED,
-        },
-        bits: given.bits,
-        ..Outcome::answer(given.refusal)
-    }
-}
-
-fn word_given(given: model::WordGiven) -> Outcome {
-    Outcome {
-        word: given.word,
         ..Outcome::answer(given.refusal)
     }
 }

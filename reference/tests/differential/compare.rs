@@ -18,7 +18,7 @@ pub fn outcomes(call: &Call, model: &Outcome, second: &Outcome) -> Compared {
             second.shown()
         ));
     }
-    match table::broken_rule(call, model.answer) {
+    match table::broken_rule(call, model) {
         Some(rule) => Err(rule),
         None => Ok(()),
     }
@@ -74,7 +74,10 @@ fn left_by(
     if answer != 0 && !starts_blank(call, answer) {
         return recorded(call, answer, before);
     }
-    let second = second.as_ref().expect("an accepted call leaves a state");
+    let Some(second) = second else {
+        // Reset alone changes a state that encodes nothing.
+        return *before;
+    };
     let mut left = from_reference(second);
     if !starts_or_ends(call, before, &left) {
         keep_unused_progress(before, &mut left);

@@ -64,9 +64,10 @@ enum Choice {
     View,
     Clear,
     Rma,
+    Round,
 }
 
-const CHOICES: [Choice; 16] = [
+const CHOICES: [Choice; 17] = [
     Choice::Reset,
     Choice::Inputs,
     Choice::Region,
@@ -83,23 +84,26 @@ const CHOICES: [Choice; 16] = [
     Choice::View,
     Choice::Clear,
     Choice::Rma,
+    Choice::Round,
 ];
 
 /// Weights of the choices, in their order; the rhythm sets those that are 0.
-fn weights(situation: Situation) -> [u32; 16] {
+fn weights(situation: Situation) -> [u32; 17] {
     match situation {
         Situation::Invalid => [
-            500, 30, 30, 30, 30, 30, 30, 30, 30, 30, 30, 30, 30, 30, 30, 30,
+            500, 30, 30, 30, 30, 30, 30, 30, 30, 30, 30, 30, 30, 30, 30, 30, 30,
         ],
         Situation::Uninitialised => [
-            10, 60, 150, 50, 150, 50, 150, 30, 30, 30, 30, 50, 30, 30, 20, 4,
+            10, 60, 150, 50, 150, 50, 150, 30, 30, 30, 30, 50, 30, 30, 20, 4, 30,
         ],
-        Situation::Idle => [2, 20, 50, 20, 50, 20, 8, 280, 15, 15, 0, 240, 80, 80, 10, 2],
-        Situation::Reading => [1, 6, 6, 6, 6, 6, 4, 10, 0, 6, 0, 10, 30, 30, 6, 4],
-        Situation::Programming => [1, 6, 6, 6, 6, 6, 4, 10, 0, 0, 6, 10, 30, 30, 6, 4],
-        Situation::Erasing => [1, 4, 4, 4, 4, 4, 4, 8, 900, 6, 10, 8, 20, 20, 6, 4],
+        Situation::Idle => [
+            2, 20, 50, 20, 50, 20, 8, 280, 15, 15, 0, 240, 80, 80, 10, 2, 60,
+        ],
+        Situation::Reading => [1, 6, 6, 6, 6, 6, 4, 10, 0, 6, 0, 10, 30, 30, 6, 4, 0],
+        Situation::Programming => [1, 6, 6, 6, 6, 6, 4, 10, 0, 0, 6, 10, 30, 30, 6, 4, 0],
+        Situation::Erasing => [1, 4, 4, 4, 4, 4, 4, 8, 900, 6, 10, 8, 20, 20, 6, 4, 400],
         Situation::Disabled => [
-            60, 60, 60, 60, 60, 60, 60, 60, 60, 60, 60, 60, 60, 60, 60, 40,
+            60, 60, 60, 60, 60, 60, 60, 60, 60, 60, 60, 60, 60, 60, 60, 40, 60,
         ],
     }
 }
@@ -186,6 +190,7 @@ impl Generator {
                 0 => Choice::HostRead,
                 1 => Choice::View,
                 2 => Choice::Pop,
+                3..=8 => Choice::Round,
                 _ => Choice::Step,
             };
             return self.turn_after(bench, Vec::new(), choice);
@@ -208,15 +213,13 @@ impl Generator {
         let mut weights = weights(situation);
         let place = |choice| CHOICES.iter().position(|c| *c == choice).unwrap();
         let (steps, words) = self.rhythm;
+        if matches!(situation, Situation::Reading | Situation::Programming) {
+            weights[place(Choice::Step)] = steps;
+            weights[place(Choice::Round)] = steps / 2;
+        }
         match situation {
-            Situation::Reading => {
-                weights[place(Choice::Step)] = steps;
-                weights[place(Choice::Pop)] = words;
-            }
-            Situation::Programming => {
-                weights[place(Choice::Step)] = steps;
-                weights[place(Choice::Push)] = words;
-            }
+            Situation::Reading => weights[place(Choice::Pop)] = words,
+            Situation::Programming => weights[place(Choice::Push)] = words,
             Situation::Idle => {
                 let held = state.is_some_and(|c| c.read_queue.length > 0);
                 weights[place(Choice::Pop)] = if held { words } else { 15 };
@@ -317,6 +320,10 @@ fn argued(choice: Choice, mut of: Arguments, image_words: usize) -> Call {
         },
         Choice::View => Call::View {
             page: of.view_page(),
+            image_words,
+        },
+        Choice::Round => Call::Round {
+            asked: of.round(),
             image_words,
         },
         _ => unreachable!("its arguments do not look at the state"),

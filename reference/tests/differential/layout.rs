@@ -1,7 +1,7 @@
 //! Where 01 puts pages and words, as the comparison itself reckons: it asks
 //! neither program.
 
-use reference::interface::flat::{self, Operation};
+use reference::interface::flat::{self, Operation, Progress};
 use std::ops::{Range, RangeInclusive};
 
 pub const MOST_DATA_PAGES: u32 = 256;
@@ -44,6 +44,23 @@ pub fn image_page(data_pages: u32, operation: &Operation, address: u32) -> u32 {
         _ => data_pages + INFO_TYPES[operation.info_type as usize].0,
     };
     first_page_of_bank(data_pages, address) + begin + address / PAGE_BYTES % data_pages
+}
+
+/// The bank of an address; past the end it counts as bank 1.
+pub fn bank(data_pages: u32, address: u32) -> usize {
+    usize::from(address / PAGE_BYTES >= data_pages)
+}
+
+/// An address in the bank of the next word of what is in progress; an erase stays in its bank.
+pub fn next_address(progress: &Progress) -> u32 {
+    let operation = &progress.operation;
+    match operation.kind {
+        flat::READ | flat::PROGRAM => {
+            let moved = progress.moved.wrapping_mul(WORD_BYTES);
+            operation.address.wrapping_add(moved)
+        }
+        _ => operation.address,
+    }
 }
 
 /// The bus words of a page of the image.

@@ -3,7 +3,7 @@
 use crate::bench::{unaltered, Alter, Bench, Start, Write};
 use crate::calls::{Call, Outcome};
 use crate::run::{replayed, run, Failure};
-use reference::interface::fields;
+use reference::interface::{fields, flat};
 use std::fmt::Write as _;
 use std::sync::mpsc::channel;
 use std::time::{Duration, Instant};
@@ -165,6 +165,13 @@ fn panics_at_host_reads(call: &Call, outcome: &mut Outcome) {
     assert!(!far || outcome.answer != 9, "no answer to a denied read");
 }
 
+/// A second program that forgets the host that waits for its turn.
+fn forgets_the_host(_: &Call, outcome: &mut Outcome) {
+    if outcome.round.host_turn == flat::TURN_WAITING {
+        outcome.round.host_turn = flat::TURN_UNASKED;
+    }
+}
+
 /// What a run against an altered second program is shrunk to.
 fn found(alter: Alter) -> (Failure, String) {
     let failure = run(1, 200_000, alter).err().expect("the run finds it");
@@ -183,7 +190,7 @@ fn found(alter: Alter) -> (Failure, String) {
 #[test]
 fn a_wrong_answer_is_found_and_shrunk() {
     let (small, text) = found(refuses_some_pushes);
-    assert!(small.turns.len() <= 2, "{text}");
+    assert!(small.turns.len() <= 4, "{text}");
     assert!(
         text.contains("Start {") || text.contains("write progress."),
         "{text}"
@@ -197,6 +204,15 @@ fn a_wrong_value_is_found_and_shrunk() {
     let (small, text) = found(invents_bits);
     assert!(small.turns.len() <= 4, "{text}");
     assert!(small.why.contains("bits "), "{text}");
+}
+
+/// From a lost count that stands at the start, or after the rounds that raise it.
+#[test]
+fn a_wrong_turn_is_found_and_shrunk() {
+    let (small, text) = found(forgets_the_host);
+    assert!(small.turns.len() <= 9, "{text}");
+    assert!(text.contains("Round { asked: "), "{text}");
+    assert!(small.why.contains("host_turn: 1"), "{text}");
 }
 
 #[test]

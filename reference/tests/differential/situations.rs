@@ -2,7 +2,7 @@
 //! there before it.
 
 use crate::calls::{Call, Outcome};
-use crate::layout::{MOST_DATA_PAGES, PAGE_BYTES};
+use crate::layout::{bank, next_address, MOST_DATA_PAGES, PAGE_BYTES};
 use reference::interface::flat::{self, Controller, Operation};
 use reference::model;
 
@@ -19,7 +19,7 @@ pub struct Met<'a> {
 
 type Situation = (&'static str, fn(&Met) -> bool);
 
-pub const SITUATIONS: [Situation; 25] = [
+pub const SITUATIONS: [Situation; 40] = [
     ("overlapping regions with other rights", |met| {
         let page = met.page();
         met.judged() && page.is_some_and(|page| overlap(met.before, page))
@@ -93,7 +93,9 @@ pub const SITUATIONS: [Situation; 25] = [
         reset && met.answer(0) && met.before.phase > flat::PHASE_DISABLED
     }),
     ("operation in progress written by hand", |met| {
-        met.answer(0) && met.writes > 1 && met.before.progress.running == 1
+        // A round that nobody asks for is answered 0 in any state.
+        let round = matches!(met.call, Call::Round { .. });
+        met.answer(0) && !round && met.writes > 1 && met.before.progress.running == 1
     }),
     ("seeds handed out", |met| met.outcome.seeds.given == 1),
     ("host read during an operation", |met| {
@@ -109,6 +111,56 @@ pub const SITUATIONS: [Situation; 25] = [
     }),
     ("whole bank erased by all its steps", |met| {
         met.erased_by_steps(flat::INFORMATION)
+    }),
+    ("lost count over 5 broken alone", |met| {
+        let over = met.before.lost_turns.iter().any(|lost| *lost > 5);
+        met.broken() && met.writes == 1 && over
+    }),
+    ("contest that the host wins", |met| met.step_waits()),
+    ("sixth round, the controller's", |met| met.host_waits()),
+    ("contest of an information operation", |met| {
+        met.contest() && met.before.progress.operation.partition == flat::INFORMATION
+    }),
+    ("contest of a blank read", |met| {
+        let progress = &met.before.progress;
+        met.contest() && progress.operation.kind == flat::READ && progress.readable == 0
+    }),
+    ("contest with a host past the end", |met| {
+        let page = met.host_address() / PAGE_BYTES;
+        met.contest() && page >= 2 * met.before.data_pages
+    }),
+    ("contest won by a host read refused 5", |met| {
+        met.step_waits() && met.outcome.round.host_answer == 5
+    }),
+    ("contest won by a host read refused 7", |met| {
+        met.step_waits() && met.outcome.round.host_answer == 7
+    }),
+    ("contest won by a host read refused 9", |met| {
+        met.step_waits() && met.outcome.round.host_answer == 9
+    }),
+    ("host waits that would be refused", |met| {
+        met.host_waits() && !met.host_allowed()
+    }),
+    ("step alone at a lost count of 5", |met| {
+        let told = &met.outcome.round;
+        told.host_turn == flat::TURN_UNASKED
+            && met.moved_in_round()
+            && met.lost_five(met.next_bank())
+    }),
+    ("host alone at a lost count of 5", |met| {
+        let told = &met.outcome.round;
+        told.step_turn == flat::TURN_UNASKED && met.host_served() && met.lost_five(met.host_bank())
+    }),
+    ("both banks served in a round", |met| {
+        met.host_served() && met.moved_in_round()
+    }),
+    ("stalled step beside a host in its bank", |met| {
+        let stalled = met.outcome.round.movement == flat::MOVEMENT_STALLED;
+        let same_bank = met.host_bank() == met.next_bank();
+        met.host_served() && !met.step_waits() && stalled && same_bank
+    }),
+    ("refused step beside a host", |met| {
+        met.host_served() && met.outcome.round.step_answer == 12
     }),
 ];
 
@@ -160,6 +212,7 @@ impl Met<'_> {
             | Call::Run { image_words, .. }
             | Call::HostRead { image_words, .. }
             | Call::View { image_words, .. }
+            | Call::Round { image_words, .. }
             | Call::Rma { image_words } => Some(*image_words),
             _ => None,
         }
@@ -167,6 +220,57 @@ impl Met<'_> {
 
     fn right(&self) -> usize {
         model::image_words(self.before.data_pages.min(MOST_DATA_PAGES)) as usize
+    }
+
+    // -- rounds; in other calls both turns are unasked --
+
+    fn host_waits(&self) -> bool {
+        self.outcome.round.host_turn == flat::TURN_WAITING
+    }
+
+    fn step_waits(&self) -> bool {
+        self.outcome.round.step_turn == flat::TURN_WAITING
+    }
+
+    fn contest(&self) -> bool {
+        self.host_waits() || self.step_waits()
+    }
+
+    /// The host was given its word.
+    fn host_served(&self) -> bool {
+        let told = &self.outcome.round;
+        told.host_turn == flat::TURN_SERVED && told.host_answer == 0
+    }
+
+    fn moved_in_round(&self) -> bool {
+        let movement = self.outcome.round.movement;
+        [flat::MOVEMENT_MOVED, flat::MOVEMENT_FINISHED].contains(&movement)
+    }
+
+    fn host_address(&self) -> u32 {
+        match self.call {
+            Call::Round { asked, .. } => asked.host_address,
+            _ => 0,
+        }
+    }
+
+    fn host_allowed(&self) -> bool {
+        let page = self.host_address() / PAGE_BYTES;
+        let inside = page < 2 * self.before.data_pages;
+        self.host_address().is_multiple_of(4) && inside && rights(self.before, page) & 1 == 1
+    }
+
+    fn host_bank(&self) -> usize {
+        bank(self.before.data_pages, self.host_address())
+    }
+
+    fn next_bank(&self) -> usize {
+        bank(self.before.data_pages, next_address(&self.before.progress))
+    }
+
+    /// The controller goes next in a contest for the bank.
+    fn lost_five(&self, bank: usize) -> bool {
+        self.before.lost_turns[bank] == 5
     }
 
     fn erased_by_steps(&self, partition: u32) -> bool {

@@ -63,11 +63,12 @@ fn garbage(rng: &mut Rng) -> flat::Controller {
     c
 }
 
-/// A valid state with nothing in progress: overlapping regions, mixed rights, records and read words.
+/// A valid state with nothing in progress: overlapping regions, mixed rights, records, read words and lost counts.
 fn rich(rng: &mut Rng, data_pages: u32) -> flat::Controller {
     let mut c = flat::Controller {
         data_pages,
         phase: rng.weighted(&[15, 80, 5]) as u32,
+        lost_turns: [rng.below(6), rng.below(6)],
         ..flat::Controller::default()
     };
     settle(rng, &mut c);
@@ -180,8 +181,8 @@ fn field_written(rng: &mut Rng, c: &flat::Controller) -> Write {
     Write { field, value }
 }
 
-/// Fields that the rules tie to one another.
-const DELICATE: [&str; 16] = [
+/// Fields that the rules tie to one another, and the few that only rounds look at.
+const DELICATE: [&str; 18] = [
     "data_pages",
     "phase",
     "default_rights",
@@ -198,6 +199,8 @@ const DELICATE: [&str; 16] = [
     "read_queue.length",
     "program_queue.length",
     "last_address",
+    "lost_turns[0]",
+    "lost_turns[1]",
 ];
 
 /// A border of some rule, a neighbour of what stands there, the same in its low bits, or anything.

@@ -1,24 +1,24 @@
-//! Which call may answer what, by document 01, and how often each pair was met.
+//! Which call may answer what, by documents 01 and 02, and how often each pair was met.
 
-use crate::calls::{Call, Outcome};
+use crate::calls::{AskedInRound, Call, Outcome};
 use crate::layout::{DATA_PAGES, MOST_DATA_PAGES};
 use crate::situations::{Met, SITUATIONS};
 use reference::interface::flat;
 use std::fmt::Write;
 
 const ANSWERS: usize = 14;
-const CALLS: usize = 16;
+const CALLS: usize = 18;
 /// So many calls meet every situation.
 const CALLS_THAT_MEET_ALL: u64 = 1_000_000;
 
-/// A call of 01 and the answers its rule allows.
+/// A call, or one side of a round, and the answers its rule allows.
 struct Row {
     name: &'static str,
     answers: &'static [u32],
     rule: &'static str,
 }
 
-/// In the order of 01's "What may be asked".
+/// In the order of 01's "What may be asked"; then the rounds of 02.
 const ROWS: [Row; CALLS] = [
     Row {
         name: "reset",
@@ -100,7 +100,18 @@ const ROWS: [Row; CALLS] = [
         answers: &[0, 1, 2, 4],
         rule: "RMA: 1, 2, 4",
     },
+    Row {
+        name: "round, step",
+        answers: &[0, 1, 2, 3, 12],
+        rule: "a step that is served answers as a step",
+    },
+    Row {
+        name: "round, host",
+        answers: &[0, 1, 2, 3, 5, 7, 9],
+        rule: "a host read that is served answers as a host read",
+    },
 ];
+const HOST_OF_ROUND: usize = 17;
 
 /// A program has at most 16 words (check 8), so all are pushed (12) before the queue can be found full.
 const CANNOT_BE_MET: (&str, u32) = ("push", 11);
@@ -123,14 +134,27 @@ fn row(call: &Call) -> usize {
         Call::View { .. } => 13,
         Call::ClearErrors => 14,
         Call::Rma { .. } => 15,
+        Call::Round { .. } => 16,
     }
 }
 
-/// The rule that the answer breaks, if 01 does not allow it.
-pub fn broken_rule(call: &Call, answer: u32) -> Option<String> {
-    let row = &ROWS[row(call)];
-    (!row.answers.contains(&answer))
-        .then(|| format!("{} may not answer {answer}: \"{}\"", row.name, row.rule))
+/// The rows that a call meets, with their answers; a side of a round that is not served has none.
+fn answered(call: &Call, outcome: &Outcome) -> impl Iterator<Item = (usize, u32)> {
+    let told = &outcome.round;
+    let unserved = matches!(call, Call::Round { .. }) && told.step_turn != flat::TURN_SERVED;
+    let own = (!unserved).then_some((row(call), outcome.answer));
+    let host = (told.host_turn == flat::TURN_SERVED).then_some((HOST_OF_ROUND, told.host_answer));
+    own.into_iter().chain(host)
+}
+
+/// The rule that an answer breaks, if the papers do not allow it.
+pub fn broken_rule(call: &Call, outcome: &Outcome) -> Option<String> {
+    let mut met = answered(call, outcome);
+    met.find_map(|(row, answer)| {
+        let row = &ROWS[row];
+        (!row.answers.contains(&answer))
+            .then(|| format!("{} may not answer {answer}: \"{}\"", row.name, row.rule))
+    })
 }
 
 /// What a step works on. A blank read moves words of its own.
@@ -193,8 +217,11 @@ impl Tally {
 
     pub fn count(&mut self, met: &Met) {
         self.calls += 1;
-        self.pairs[row(met.call)][met.outcome.answer as usize] += 1;
-        if let Some(work) = work_of(&met.before.progress) {
+        for (row, answer) in answered(met.call, met.outcome) {
+            self.pairs[row][answer as usize] += 1;
+        }
+        let its_turn = met.outcome.round.step_turn != flat::TURN_WAITING;
+        if let Some(work) = work_of(&met.before.progress).filter(|_| its_turn) {
             self.movements[work as usize][met.outcome.movement as usize] += 1;
         }
         for (count, (_, holds)) in self.situations.iter_mut().zip(SITUATIONS) {
@@ -319,16 +346,36 @@ fn cell(allowed: bool, count: u64) -> String {
 
 #[test]
 fn what_01_does_not_allow_is_told() {
-    assert!(broken_rule(&Call::Pop, 10).is_none());
-    assert!(broken_rule(&Call::Pop, 2).is_some_and(|told| told.contains("Pop: 1, 10")));
-    assert!(broken_rule(&Call::ClearErrors, 14).is_some());
+    let told = |call, answer| broken_rule(&call, &Outcome::answer(answer));
+    assert!(told(Call::Pop, 10).is_none());
+    assert!(told(Call::Pop, 2).is_some_and(|told| told.contains("Pop: 1, 10")));
+    assert!(told(Call::ClearErrors, 14).is_some());
+    let unexpected = |host_turn| Outcome {
+        round: flat::Rounded {
+            host_turn,
+            host_answer: 12,
+            ..flat::Rounded::default()
+        },
+        ..Outcome::default()
+    };
+    let asked = AskedInRound {
+        host_asks: 1,
+        host_address: 0,
+        step_asks: 0,
+    };
+    let round = Call::Round {
+        asked,
+        image_words: 0,
+    };
+    assert!(broken_rule(&round, &unexpected(flat::TURN_SERVED)).is_some());
+    assert!(broken_rule(&round, &unexpected(flat::TURN_WAITING)).is_none());
 }
 
-/// 77 pairs but for the one that cannot be met, 15 movements and 247 D; after many calls the situations too.
+/// 89 pairs but for the one that cannot be met, 15 movements and 247 D; after many calls the situations too.
 #[test]
 fn what_was_never_met_is_told() {
     let mut tally = Tally::new();
-    let always = 76 + 15 + 247;
+    let always = 88 + 15 + 247;
     assert_eq!(tally.never_met().len(), always);
     let before = flat::Controller {
         data_pages: 256,

@@ -5,6 +5,23 @@ use reference::model::*;
 /// The D of a bench program.
 pub const D: u32 = 16;
 
+// What an accepted step tells that changes no bit.
+pub const MOVED: Stepped = Stepped {
+    refusal: NONE,
+    progress: Some(Progress::Moved),
+    bits: 0,
+};
+pub const FINISHED: Stepped = Stepped {
+    refusal: NONE,
+    progress: Some(Progress::Finished),
+    bits: 0,
+};
+pub const WAITING: Stepped = Stepped {
+    refusal: NONE,
+    progress: Some(Progress::Waiting),
+    bits: 0,
+};
+
 pub fn uninitialised(d: u32) -> Controller {
     let mut c = Controller::default();
     assert_eq!(reset(&mut c, d), NONE);
@@ -130,6 +147,16 @@ pub fn assert_refused(
     let before = (c.clone(), image.clone());
     assert_eq!(call(c, image), refusal);
     assert!(before == (c.clone(), image.clone()), "something changed");
+}
+
+/// The answer of a round in which both ask and neither waits: they are refused alike.
+pub fn round_refusal(c: &mut Controller, image: &mut [u32]) -> u8 {
+    let told = round(c, image, Some(0), true);
+    let (Turn::Served(host), Turn::Served(step)) = (told.host, told.step) else {
+        panic!("{told:?}");
+    };
+    assert_eq!(host.refusal, step.refusal);
+    step.refusal
 }
 
 /// Refused with this number and recorded, nothing else changed.

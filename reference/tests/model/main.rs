@@ -1,4 +1,4 @@
-//! Tests of the reference model, case by case from document 01.
+//! Tests of the reference model, case by case from documents 01 and 02.
 
 mod bench_sheet;
 mod common_mistakes;
@@ -8,6 +8,7 @@ mod plain_rust;
 mod random_runs;
 mod refusal_table;
 mod rma_and_seeds;
+mod rounds;
 mod settings;
 mod spans;
 mod states;

@@ -21,16 +21,21 @@ enum Call {
     Pop,
     Whole(Operation),
     HostRead(u32),
+    Round(Option<u32>, bool),
 }
 
 impl Call {
     fn random(rng: &mut Rng) -> Self {
-        match rng.below(16) {
+        match rng.below(20) {
             0 => Call::Start(rng.operation()),
             1 | 2 => Call::Whole(rng.operation()),
-            3 => Call::HostRead(rng.below(0x2100) * 4 + rng.below(2)),
+            3 => Call::HostRead(rng.host_address()),
             4..=6 => Call::Push(rng.word()),
             7 | 8 => Call::Pop,
+            9..=12 => {
+                let host = rng.below(8) > 0;
+                Call::Round(host.then(|| rng.host_address()), rng.below(8) > 0)
+            }
             _ => Call::Step,
         }
     }
@@ -44,6 +49,7 @@ impl Call {
             Call::Pop => format!("{:?}", model::pop(c)),
             Call::Whole(operation) => format!("{:?}", model::whole(c, operation, image, buffer)),
             Call::HostRead(address) => format!("{:?}", model::host_read(c, image, address)),
+            Call::Round(host, steps) => format!("{:?}", model::round(c, image, host, steps)),
         }
     }
 
@@ -56,6 +62,7 @@ impl Call {
             Call::Pop => format!("{:?}", plain::pop(c)),
             Call::Whole(operation) => format!("{:?}", plain::whole(c, operation, image, buffer)),
             Call::HostRead(address) => format!("{:?}", plain::host_read(c, image, address)),
+            Call::Round(host, steps) => format!("{:?}", plain::round(c, image, host, steps)),
         }
     }
 }

@@ -105,11 +105,16 @@ impl Rng {
         }
     }
 
+    /// A word of the data pages or just past them, sometimes unaligned.
+    pub fn host_address(&mut self) -> u32 {
+        self.below(0x2100) * 4 + self.below(2)
+    }
+
     /// A ready controller with all rights, but for a few fields.
     pub fn controller(&mut self) -> Controller {
         let mut c = ready();
         for _ in 0..1 + self.below(3) {
-            match self.below(14) {
+            match self.below(15) {
                 0 => c.data_pages = self.number(),
                 1 => {
                     c.phase = [Phase::Uninitialised, Phase::Ready, Phase::Disabled]
@@ -125,6 +130,7 @@ impl Rng {
                 9 => c.last_address = self.number(),
                 10 => c.read_queue = self.queue(),
                 11 => c.program_queue = self.queue(),
+                12 => c.lost = [self.below(7), self.below(7)],
                 _ => c.in_progress = self.in_progress(),
             }
         }
@@ -154,15 +160,24 @@ fn random_call(
         4 => set_bank_erase_permission(c, rng.below(3), rng.below(4) > 0),
         5 => initialise(c, image).refusal,
         6 => clear(c),
-        7 => host_read(c, image, rng.below(0x2100) * 4 + rng.below(2)).refusal,
+        7 => host_read(c, image, rng.host_address()).refusal,
         8 => view(c, image, rng.below(34)).refusal,
         9 | 10 => return (start(c, rng.operation()), true),
         11 => return (whole(c, rng.operation(), image, buffer).refusal, true),
         12..=14 => push(c, rng.word()),
         15..=17 => pop(c).refusal,
+        18 | 19 => step_refusal(round(c, image, Some(rng.host_address()), true)),
         _ => step(c, image).refusal,
     };
     (refusal, false)
+}
+
+/// Of a round with a step; one that waits for its turn is not refused.
+fn step_refusal(told: Rounded) -> u8 {
+    match told.step {
+        Turn::Served(given) => given.refusal,
+        _ => NONE,
+    }
 }
 
 #[test]

@@ -11,6 +11,7 @@ fn row_1_wrong_image_length_for_every_call_that_is_lent_one() {
         assert_refused(&mut c, &mut image, 1, |c, i| step(c, i).refusal);
         assert_refused(&mut c, &mut image, 1, |c, i| host_read(c, i, 0).refusal);
         assert_refused(&mut c, &mut image, 1, |c, i| view(c, i, 0).refusal);
+        assert_refused(&mut c, &mut image, 1, |c, i| round_refusal(c, i));
         assert_refused(&mut c, &mut image, 1, |c, i| rma(c, i));
         assert_refused(&mut c, &mut image, 1, |c, i| initialise(c, i).refusal);
         let mut buffer = [3; 4];
@@ -64,6 +65,7 @@ fn assert_not_ready(c: &mut Controller, image: &mut Vec<u32>, refusal: u8) {
     });
     assert_refused(c, image, refusal, |c, i| host_read(c, i, 0).refusal);
     assert_refused(c, image, refusal, |c, i| view(c, i, 0).refusal);
+    assert_refused(c, image, refusal, |c, i| round_refusal(c, i));
 }
 
 #[test]

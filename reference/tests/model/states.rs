@@ -26,6 +26,7 @@ fn assert_broken(c: &Controller) {
     refused(&|c, i| whole(c, read, i, &mut [0]).refusal);
     refused(&|c, i| host_read(c, i, 0).refusal);
     refused(&|c, i| view(c, i, 0).refusal);
+    refused(&|c, i| round_refusal(c, i));
     refused(&|c, _| clear(c));
     refused(&|c, i| rma(c, i));
     assert_eq!(reset(&mut c, D), NONE);
@@ -317,6 +318,22 @@ fn at_most_n_words_are_pushed() {
     assert_broken(&with_program(program, 2, 5));
     assert_broken(&with_program(program, 5, u32::MAX));
     assert_valid(&with_program(data(PROGRAM, 0, 16), 0, 16));
+}
+
+/// 02, L1.
+#[test]
+fn a_lost_count_is_at_most_5() {
+    for bank in 0..2 {
+        for c in [uninitialised(D), started(data(READ, 0, 4)), disabled()] {
+            let with = |lost| changed(c.clone(), |c| c.lost[bank] = lost);
+            for lost in 0..=5 {
+                assert_valid(&with(lost));
+            }
+            for lost in [6, 255, 256, u32::MAX] {
+                assert_broken(&with(lost));
+            }
+        }
+    }
 }
 
 #[test]

@@ -3,22 +3,6 @@
 use crate::helpers::*;
 use reference::model::*;
 
-const MOVED: Stepped = Stepped {
-    refusal: NONE,
-    progress: Some(Progress::Moved),
-    bits: 0,
-};
-const FINISHED: Stepped = Stepped {
-    refusal: NONE,
-    progress: Some(Progress::Finished),
-    bits: 0,
-};
-const WAITING: Stepped = Stepped {
-    refusal: NONE,
-    progress: Some(Progress::Waiting),
-    bits: 0,
-};
-
 #[test]
 fn start_keeps_the_operation_as_given() {
     let op = operation(READ, DATA, 99, 0x100, 5);

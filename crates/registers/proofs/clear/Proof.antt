@@ -9,21 +9,21 @@ use Rattle.registers.proofs.clear.Statement.{statement}
 use Rattle.registers.proofs.clear.Tie as tie
 
 abbrev Inv-loop : tie.InvT-loop
-Inv-loop s₀ pages i₀ s i = (i ≤ 135) × (zeroed s i (135 - i) ≡ zeroed s₀ 0 135)
+Inv-loop s₀ pages i₀ s i = (i ≤ 137) × (zeroed s i (137 - i) ≡ zeroed s₀ 0 137)
 
 abbrev μ-loop : tie.MeasureT-loop
-μ-loop s₀ pages i₀ s i = 135 - i
+μ-loop s₀ pages i₀ s i = 137 - i
 
 loop-again : tie.Need-loop-again Inv-loop μ-loop
 loop-again c =
     let l = c .before .loop in
-    (omega arith, sym (zeroed-next (l .s) (l .i) (135 - l .i) (135 - (l .i + 1)) (omega arith)) ∙ l .inv .1)
+    (omega arith, sym (zeroed-next (l .s) (l .i) (137 - l .i) (137 - (l .i + 1)) (omega arith)) ∙ l .inv .1)
 
 returns : tie.Need-returns Inv-loop μ-loop
 unfolding cleared
 returns c =
     let l = c .before .loop in
-    rw (sym (zeroed-none (l .s) (l .i) (135 - l .i) (omega arith)) ∙ l .inv .1)
+    rw (sym (zeroed-none (l .s) (l .i) (137 - l .i) (omega arith)) ∙ l .inv .1)
 
 pub clear-spec : {M : Type 1} → statement M
 clear-spec =

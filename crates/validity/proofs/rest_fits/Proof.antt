@@ -20,7 +20,11 @@ rest-fits-spec =
     (λ c κs. tt)
     (λ c κs. tt)
     (λ c κs. tt)
-    (λ c. let m = c .before .before .before .before .before .before in let r = m .before .before in rw (
+    (λ c κs. tt)
+    (λ c.
+    let m = c .before .before .before .before .before .before in
+    let r = m .before .before in
+    rw (
       c .running-fits .ensures,
       c .before .progress-fits .ensures,
       c .before .before .queues-fit .ensures,
@@ -33,4 +37,5 @@ rest-fits-spec =
       r .before .errors .ensures,
       r .before .before .progress .ensures,
       r .before .before .before .phase .ensures,
+      r .before .before .before .before .physical-fits .ensures,
     )))

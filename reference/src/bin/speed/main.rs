@@ -12,8 +12,8 @@ use reference::model::{self, Controller, ALL_RIGHTS, BANKS};
 use std::time::{Duration, Instant};
 use work::{assert_all_done, memory, rows, timed, Left, Per, Work};
 
-/// A row's rounds: so many at least, and until so much time has passed.
-const ROUNDS: usize = 7;
+/// A row's passes: so many at least, and until so much time has passed.
+const PASSES: usize = 7;
 const TIME: Duration = Duration::from_millis(250);
 
 const PROGRAMS: usize = 3;
@@ -21,7 +21,7 @@ const COLUMNS: [&str; 10] = [
     "work",
     "D",
     "operations",
-    "rounds",
+    "passes",
     "per",
     "model",
     "second",
@@ -30,21 +30,23 @@ const COLUMNS: [&str; 10] = [
     "/ plain",
 ];
 const NOTES: &str = "
-Nanoseconds per bus word or per call, the median of the rounds; / second and / plain
+Nanoseconds per bus word or per call, the median of the passes; / second and / plain
   are the model's time divided by theirs.
 model: the proved model through its C interface, on a controller that is lent to it.
 second: the second program, compiled with cargo's release profile. It runs a whole
   operation by its steps, as the rules tell it, and judges the state anew at each.
 plain: plain Rust with the same checks, made once in a call; a whole operation moves
   its words page by page. Compiled like the second program.
-A round does the operation at every place of the data pages, one after the other
+A pass does the operation at every place of the data pages, one after the other
   (a bank erase at both banks), on each program; they take turns to go first.
-Before each round, outside the timed part: flash of mixed words for reads, erased for
+Before each pass, outside the timed part: flash of mixed words for reads, erased for
   programs, programmed to zeros for erases; a controller that is ready, with all
   rights by default and no region on; a buffer with a part for every operation,
   cleared for reads, of mixed words for programs, empty for erases; and the whole
-  round once untimed, on copies.
-After each round, asserted: answers, bits, buffer, image and state are the same.";
+  pass once untimed, on copies.
+Rounds go through a data bank erase: with its steps alone, or with a host that asks for
+  the same bank each time and wins five rounds of six.
+After each pass, asserted: answers, bits, buffer, image and state are the same.";
 
 /// Ready, with every right given and no region on.
 fn ready(data_pages: u32, image: &[u32]) -> Controller {
@@ -58,8 +60,8 @@ fn ready(data_pages: u32, image: &[u32]) -> Controller {
     c
 }
 
-/// One round: all programs from the same start, and all they leave compared.
-fn round(work: &Work, number: usize) -> [Duration; PROGRAMS] {
+/// One pass: all programs from the same start, and all they leave compared.
+fn pass(work: &Work, number: usize) -> [Duration; PROGRAMS] {
     let memory = memory(work);
     let controller = ready(work.data_pages, &memory.image);
     let run = |program| -> (Duration, Left) {
@@ -83,14 +85,14 @@ fn round(work: &Work, number: usize) -> [Duration; PROGRAMS] {
     times
 }
 
-/// The times of all rounds.
-fn rounds(work: &Work) -> Vec<[Duration; PROGRAMS]> {
+/// The times of all passes.
+fn passes(work: &Work) -> Vec<[Duration; PROGRAMS]> {
     let begun = Instant::now();
-    let mut rounds = Vec::new();
-    while rounds.len() < ROUNDS || begun.elapsed() < TIME {
-        rounds.push(round(work, rounds.len()));
+    let mut passes = Vec::new();
+    while passes.len() < PASSES || begun.elapsed() < TIME {
+        passes.push(pass(work, passes.len()));
     }
-    rounds
+    passes
 }
 
 fn median(times: impl Iterator<Item = Duration>) -> Duration {
@@ -102,21 +104,21 @@ fn median(times: impl Iterator<Item = Duration>) -> Duration {
 fn main() {
     print_row(COLUMNS);
     for work in rows() {
-        let rounds = rounds(&work);
+        let passes = passes(&work);
         let operations = work.addresses().len();
         let (per, units) = match work.per {
             Per::Word => ("word", work.words() * operations as u64),
-            Per::Call => ("call", operations as u64),
+            Per::Call => ("call", work.calls() * operations as u64),
         };
         let [model, second, plain] = std::array::from_fn(|program| {
-            let time = median(rounds.iter().map(|round| round[program]));
+            let time = median(passes.iter().map(|pass| pass[program]));
             time.as_nanos() as f64 / units as f64
         });
         print_row([
             work.name,
             &work.data_pages.to_string(),
             &operations.to_string(),
-            &rounds.len().to_string(),
+            &passes.len().to_string(),
             per,
             &format!("{model:.1}"),
             &format!("{second:.1}"),
@@ -129,10 +131,10 @@ fn main() {
 }
 
 fn print_row(columns: [&str; 10]) {
-    let [name, data_pages, operations, rounds, per, model, second, plain, to_second, to_plain] =
+    let [name, data_pages, operations, passes, per, model, second, plain, to_second, to_plain] =
         columns;
     println!(
-        "{name:<38} {data_pages:>4} {operations:>10} {rounds:>6} {per:>4} \
+        "{name:<38} {data_pages:>4} {operations:>10} {passes:>6} {per:>4} \
          {model:>8} {second:>9} {plain:>8} {to_second:>8} {to_plain:>7}"
     );
 }

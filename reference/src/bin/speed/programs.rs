@@ -14,6 +14,8 @@ pub trait Program: Clone {
     /// Also the bits changed.
     fn whole(&mut self, operation: Operation, image: &mut [u32], buffer: &mut [u32]) -> (u32, u32);
     fn host_read(&self, image: &[u32], address: u32) -> (u32, u32);
+    /// A step is always asked for.
+    fn round(&mut self, image: &mut [u32], host: Option<u32>) -> flat::Rounded;
     fn state(&self) -> flat::Controller;
 }
 
@@ -48,6 +50,11 @@ impl Program for Model {
     fn host_read(&self, image: &[u32], address: u32) -> (u32, u32) {
         let given = library::host_read(&self.0, image, address);
         (given.answer, given.word)
+    }
+
+    fn round(&mut self, image: &mut [u32], host: Option<u32>) -> flat::Rounded {
+        let (asks, address) = (host.is_some().into(), host.unwrap_or(0));
+        library::round(&mut self.0, image, asks, address, 1)
     }
 
     fn state(&self) -> flat::Controller {
@@ -93,6 +100,10 @@ impl Program for Second {
         fetched(model::host_read(&self.0, image, address))
     }
 
+    fn round(&mut self, image: &mut [u32], host: Option<u32>) -> flat::Rounded {
+        model::round(&mut self.0, image, host, true).into()
+    }
+
     fn state(&self) -> flat::Controller {
         from_reference(&self.0)
     }
@@ -125,6 +136,10 @@ impl Program for Plain {
 
     fn host_read(&self, image: &[u32], address: u32) -> (u32, u32) {
         fetched(plain::host_read(&self.0, image, address))
+    }
+
+    fn round(&mut self, image: &mut [u32], host: Option<u32>) -> flat::Rounded {
+        plain::round(&mut self.0, image, host, true).into()
     }
 
     fn state(&self) -> flat::Controller {

@@ -15,6 +15,10 @@ pub enum By {
     Whole,
     /// One word, without an operation.
     HostRead,
+    /// Start, then for every word a round with a step alone.
+    LoneRounds,
+    /// Start, then rounds in which the host asks for the same bank.
+    Contests,
 }
 
 /// What a row's time is divided by.
@@ -39,6 +43,15 @@ impl Work {
         model::words_to_move(self.data_pages, &self.operation)
     }
 
+    /// The calls of one operation; its start, pushes and pops are not counted.
+    pub fn calls(&self) -> u64 {
+        match self.by {
+            By::Whole | By::HostRead => 1,
+            By::Parts | By::LoneRounds => self.words(),
+            By::Contests => ROUNDS_PER_WORD * self.words(),
+        }
+    }
+
     /// The byte addresses at which the operation is done, one after the other.
     pub fn addresses(&self) -> Vec<u32> {
         let bank_bytes = u64::from(self.data_pages) * PAGE_BYTES;
@@ -50,6 +63,9 @@ impl Work {
         (0..places).map(|i| (i * stride) as u32).collect()
     }
 }
+
+/// The host wins five, then a word moves.
+const ROUNDS_PER_WORD: u64 = 6;
 
 type Line = (&'static str, By, u8, u8, u32);
 
@@ -90,8 +106,16 @@ const WORD_CALLS: [Line; 3] = [
     ("push + step, 1/16 of a start", By::Parts, PROGRAM, DATA, 16),
 ];
 
-const CALLS: [Line; 7] = [
+const CALLS: [Line; 9] = [
     ("host read", By::HostRead, READ, DATA, 1),
+    ("round, step alone", By::LoneRounds, BANK_ERASE, DATA, 0),
+    (
+        "round, host and step in one bank",
+        By::Contests,
+        BANK_ERASE,
+        DATA,
+        0,
+    ),
     ("whole read of 1 word", By::Whole, READ, DATA, 1),
     ("whole read of 16 words", By::Whole, READ, DATA, 16),
     ("whole read of 1,024 words", By::Whole, READ, DATA, 1_024),
@@ -164,8 +188,10 @@ fn mixed(place: u32) -> u32 {
 pub struct Told {
     refusals: u32,
     bits: u32,
-    /// The step that told it finished; 0 of a whole operation.
+    /// The step or round that told it finished; 0 of a whole operation.
     finished_at: u64,
+    /// The sum of the words that rounds gave the host.
+    host_words: u32,
 }
 
 fn in_parts(
@@ -209,7 +235,7 @@ fn whole(
     Told {
         refusals,
         bits,
-        finished_at: 0,
+        ..Told::default()
     }
 }
 
@@ -220,6 +246,29 @@ fn host_read(program: &impl Program, address: u32, image: &[u32], buffer: &mut [
         refusals,
         ..Told::default()
     }
+}
+
+fn in_rounds(
+    program: &mut impl Program,
+    operation: Operation,
+    host: Option<u32>,
+    rounds: u64,
+    image: &mut [u32],
+) -> Told {
+    let mut told = Told {
+        refusals: program.start(operation),
+        ..Told::default()
+    };
+    for round in 1..=rounds {
+        let given = program.round(image, host);
+        told.refusals |= given.host_answer | given.step_answer;
+        told.bits += given.bits;
+        told.host_words = told.host_words.wrapping_add(given.word);
+        if given.movement == flat::MOVEMENT_FINISHED {
+            told.finished_at = round;
+        }
+    }
+    told
 }
 
 /// All that a program told and left behind.
@@ -238,7 +287,7 @@ pub fn timed(program: impl Program, work: &Work, memory: &Memory) -> (Duration, 
 }
 
 fn done(mut program: impl Program, work: &Work, mut memory: Memory) -> (Duration, Left) {
-    let words = work.words();
+    let calls = work.calls();
     let addresses = work.addresses();
     let mut told = Vec::with_capacity(addresses.len());
     let image = &mut memory.image[..];
@@ -252,9 +301,11 @@ fn done(mut program: impl Program, work: &Work, mut memory: Memory) -> (Duration
         let (buffer, rest) = unused.split_at_mut(operation.count as usize);
         unused = rest;
         told.push(match work.by {
-            By::Parts => in_parts(&mut program, operation, words, image, buffer),
+            By::Parts => in_parts(&mut program, operation, calls, image, buffer),
             By::Whole => whole(&mut program, operation, image, buffer),
             By::HostRead => host_read(&program, address, image, buffer),
+            By::LoneRounds => in_rounds(&mut program, operation, None, calls, image),
+            By::Contests => in_rounds(&mut program, operation, Some(address), calls, image),
         });
     }
     let time = begun.elapsed();
@@ -269,10 +320,10 @@ fn done(mut program: impl Program, work: &Work, mut memory: Memory) -> (Duration
     )
 }
 
-/// Nothing was refused, parts finished with the last word, and an erase of zeros changed every bit.
+/// Nothing was refused, parts and rounds finished with the last word, and an erase of zeros changed every bit.
 pub fn assert_all_done(work: &Work, told: &[Told]) {
     let finished_at = match work.by {
-        By::Parts => work.words(),
+        By::Parts | By::LoneRounds | By::Contests => work.calls(),
         By::Whole | By::HostRead => 0,
     };
     let erases = matches!(work.operation.kind, PAGE_ERASE | BANK_ERASE);

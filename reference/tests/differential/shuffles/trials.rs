@@ -44,6 +44,7 @@ impl Trials {
             seeds_locked: self.rng.percent(30),
             default_rights: self.rights(),
             bank_erase_permissions: [self.rng.percent(80), self.rng.percent(80)],
+            lost: [self.rng.below(6), self.rng.below(6)],
             ..Controller::default()
         };
         for setting in &mut c.info_settings {

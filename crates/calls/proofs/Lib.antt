@@ -1,0 +1,3 @@
+-- What the calls tell.
+
+pub mod Movements

@@ -1,0 +1,3 @@
+-- Fair turns of host and controller, whatever is called.
+
+pub mod Fair

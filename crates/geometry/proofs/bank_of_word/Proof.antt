@@ -1,0 +1,15 @@
+-- `geometry::bank_of_word` meets its contract. Assumes nothing.
+use borrow.Author.Needs.{needs}
+use borrow.Author.Tests.{lt-ltb, le-ltb}
+use Rattle.geometry.proofs.bank_of_word.Statement.{statement}
+use Rattle.geometry.proofs.bank_of_word.Tie as tie
+
+pub bank-of-word-spec : {M : Type 1} → statement M
+bank-of-word-spec =
+    tie.close
+    (tie.spec
+    (λ c. search needs)
+    (λ c. search needs)
+    (λ c. search needs)
+    (λ c. (simp (lt-ltb _ _ (c .if1 .taken)), search needs))
+    (λ c. (simp (le-ltb _ _ (c .if1 .left)), search needs)))

@@ -1,0 +1,4 @@
+-- A round on registers.
+
+pub mod Going
+pub mod Served

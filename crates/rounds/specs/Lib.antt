@@ -1,0 +1,3 @@
+-- A round on registers.
+
+pub mod Turns
