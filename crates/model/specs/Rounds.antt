@@ -30,7 +30,7 @@ use Rattle.model.specs.declared.Rounded.{Rounded}
 
 -- ---- who competes for a bank
 
--- A step that would wait or be refused does not compete: the step would move a word.
+-- A step competes if it would move a word: one that would wait or be refused is answered at once and doesn't.
 abbrev pub goes : Queues → Progress → Bool
 goes q Idle = false
 goes q (Running w) = not (stalls q w)
@@ -50,6 +50,7 @@ nextBank c = progressBank (c .setup .pages) (c .progress)
 unfoldable pub hostBank : ℕ → ByteAddress → ℕ
 hostBank d a = bankOf d (pageOf a)
 
+-- Host and step both wait in a bank.
 unfoldable pub competes : Controller → Flash → ByteAddress → Bool
 competes c f a = wouldMove c f && eqb (hostBank (c .setup .pages) a) (nextBank c)
 
