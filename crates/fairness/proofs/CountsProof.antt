@@ -1,9 +1,7 @@
 -- What changes a lost count. Assumes nothing.
-use Prim.Native.Nat.{ℕ}
 use mathlib.Core.Path.{_≡_, refl}
 use mathlib.Core.Bool.{Bool, true, false, not, cond, true≢false}
-use mathlib.Core.List.{List}
-use Rattle.model.specs.State.{Flash, withInputs, withSettings, withErrors, noErrors}
+use Rattle.model.specs.State.{withInputs, withSettings, withErrors, noErrors}
 use Rattle.model.specs.Refusals.{accepts, check, orElse, readyAnswer}
 use Rattle.model.specs.Errors.{clear}
 use Rattle.model.specs.Settings.{settingAnswer, setInputs, configured, setRegion, setDefault, setInfo, setErase}
@@ -12,15 +10,13 @@ use Rattle.model.specs.Valid.{valid}
 use Rattle.model.specs.Steps.{startAnswer, start, pushAnswer, push, popAnswer, pop}
 use Rattle.model.specs.Host.{hostRead}
 use Rattle.model.specs.Rounds.{round}
-use Rattle.model.specs.declared.Operation.{Operation}
 use Rattle.model.specs.declared.HostRequest.the-variants.{Nothing, Word}
 use Rattle.model.specs.declared.Settings.{Settings}
 use Rattle.model.specs.declared.Answer.the-variants.{Invalid}
 use Rattle.model.specs.declared.Controller.{Controller}
 use Rattle.model.proofs.Bool.{by-test}
 use Rattle.model.proofs.Rounds.{step-leaves-alone}
-use Rattle.plans.specs.Plan.{Plan, Refused, Recorded, Blank, Reads, Programs, Erases, planOf, performed}
-use Rattle.plans.proofs.ClosedFormProof.{closed-form}
+use Rattle.plans.proofs.Left.{whole-leaves}
 use Rattle.promises.specs.Calls.{Reset, SetInputs, SetRegion, SetDefault, SetInfo, SetErase, Initialise, Start, Step, Push, Pop, Whole, HostRead, ViewPage, Clear, Rma, Round, perform}
 use Rattle.fairness.specs.Fair.{StartsAtZero, CountsStay}
 
@@ -37,15 +33,6 @@ configured-leaves : (c : Controller) (x : Settings) (fits : Bool) → configured
 unfolding configured
 configured-leaves c x fits = either (accepts (settingAnswer c fits)) (withSettings c x) c refl
 
-performed-leaves : (c : Controller) (f : Flash) (o : Operation) (b : List ℕ) (p : Plan) → performed c f o b p .result .controller .physical ≡ c .physical
-unfolding performed
-performed-leaves c f o b (Refused a) = refl
-performed-leaves c f o b (Recorded a) = refl
-performed-leaves c f o b (Blank n) = refl
-performed-leaves c f o b (Reads ps) = refl
-performed-leaves c f o b (Programs ps) = refl
-performed-leaves c f o b (Erases ps) = refl
-
 pub counts-stay : CountsStay
 unfolding perform setInputs setRegion setDefault setInfo setErase initialise start push pop hostRead clear rma round
 counts-stay s (Reset d) r a = absurd (true≢false r)
@@ -61,8 +48,7 @@ counts-stay s (Push w) r a =
     let c = s .controller in
     by-test (accepts (orElse (readyAnswer (valid c) (c .phase)) (pushAnswer c (c .progress)))) (λ t. rw t) (λ t. rw t)
 counts-stay s Pop r a = by-test (accepts (popAnswer (s .controller))) (λ t. rw t) (λ t. rw t)
-counts-stay s (Whole o b) r a =
-    rw (closed-form (s .controller) (s .flash) o b) (performed-leaves (s .controller) (s .flash) o b (planOf (s .controller) (s .flash) o b))
+counts-stay s (Whole o b) r a = whole-leaves (s .controller) (s .flash) o b .1
 counts-stay s (HostRead x) r a = refl
 counts-stay s (ViewPage p) r a = refl
 counts-stay s Clear r a = either (accepts (check (not (valid (s .controller))) Invalid)) (withErrors (s .controller) noErrors) (s .controller) refl

@@ -7,6 +7,7 @@ pub mod Moves
 pub mod Turns
 pub mod Wholes
 pub mod ClosedFormProof
+pub mod Left
 pub mod Changes
 pub mod Drives
 pub mod DrivenReads

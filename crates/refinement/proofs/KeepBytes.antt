@@ -3,7 +3,6 @@ use Prim.Native.Nat.{ℕ, _+_, _≤_}
 use native.Mathlib.Omega.{arith}
 use mathlib.Core.Path.{_≡_, refl}
 use mathlib.Core.Bool.{true, false, _&&_}
-use mathlib.Core.List.{List}
 use lib.Dec.{eqb}
 use borrow.Author.Tests.{ltb-false, le-leb}
 use Rattle.model.specs.Kinds.{isRead, isProgram, noKind, noPartition}
@@ -13,7 +12,6 @@ use Rattle.model.specs.Refusals.{accepts, isDenied, readyAnswer}
 use Rattle.model.specs.Checks.{malformed, operationAnswer}
 use Rattle.model.specs.Steps.{workOf, starts, startAnswer, start, stalls, progressed, advance, stepProgress, step}
 use Rattle.model.specs.Valid.{validWith}
-use Rattle.model.specs.Whole.{whole}
 use Rattle.model.specs.declared.Operation.{Operation}
 use Rattle.model.specs.declared.Work.{Work}
 use Rattle.model.specs.declared.Work.the-variants.{Read, Program, Erase}
@@ -23,8 +21,6 @@ use Rattle.model.specs.declared.Setup.{Setup}
 use Rattle.model.specs.declared.Controller.{Controller}
 use Rattle.model.proofs.Bool.{and-right, or-left, or-right, by-test}
 use Rattle.model.proofs.Answers.{asked-in-range}
-use Rattle.plans.specs.Plan.{Plan, Refused, Recorded, Blank, Reads, Programs, Erases, planOf, performed}
-use Rattle.plans.proofs.ClosedFormProof.{closed-form}
 use Rattle.registers.proofs.Stored.{bytes, asBytes}
 
 pub record Bytes (p : Progress) : Type 0 where
@@ -81,17 +77,3 @@ module _ (c : Controller) (f : Flash) where
   pub step-bytes : Bytes (c .progress) → Bytes (step c f .result .controller .progress)
   unfolding step
   step-bytes b = by-test (accepts (readyAnswer (validWith c f) (c .phase))) (λ e. rw e (progress-bytes (c .progress) b b)) (λ e. rw e b)
-
--- ---- a whole operation is over when it returns, so what was in progress is so again
-
-performed-same : (c : Controller) (f : Flash) (o : Operation) (b : List ℕ) (p : Plan) → performed c f o b p .result .controller .progress ≡ c .progress
-unfolding performed
-performed-same c f o b (Refused a) = refl
-performed-same c f o b (Recorded a) = refl
-performed-same c f o b (Blank n) = refl
-performed-same c f o b (Reads ps) = refl
-performed-same c f o b (Programs ps) = refl
-performed-same c f o b (Erases ps) = refl
-
-pub whole-same : (c : Controller) (f : Flash) (o : Operation) (b : List ℕ) → whole c f o b .result .controller .progress ≡ c .progress
-whole-same c f o b = rw (closed-form c f o b) (performed-same c f o b (planOf c f o b))

@@ -18,6 +18,7 @@ use Rattle.model.specs.Whole.{wholeAnswer, whole}
 use Rattle.model.specs.declared.HostRequest.{HostRequest}
 use Rattle.model.specs.declared.Controller.{Controller}
 use Rattle.model.proofs.Bool.{or-right, by-test}
+use Rattle.plans.proofs.Left.{whole-leaves}
 use Rattle.promises.specs.Calls.{State, Call, SetInputs, SetRegion, SetDefault, SetInfo, SetErase, Initialise, Start, Step, Push, Pop, Whole, Clear, Rma, Round, perform}
 use Rattle.promises.specs.Refused.{leftBy}
 use Rattle.promises.proofs.Validity.{call-keeps}
@@ -30,7 +31,7 @@ use Rattle.registers.proofs.Cleared.{decode-cleared}
 use Rattle.validity.proofs.Taken.{taken-stands}
 use Rattle.calls.specs.Calls.{setInputsIn, setRegionIn, setDefaultIn, setInfoIn, setEraseIn, clearIn, pushIn, popIn, initialiseIn, stepIn, rmaIn, resetIn, startIn, wholeIn, roundIn, tellsMovement}
 use Rattle.refinement.specs.Refinement.{RefinesOn, Refines}
-use Rattle.refinement.proofs.KeepBytes.{Bytes, start-bytes, step-bytes, whole-same}
+use Rattle.refinement.proofs.KeepBytes.{Bytes, start-bytes, step-bytes}
 use Rattle.refinement.proofs.KeepRounds.{round-silent, round-taken, round-bytes}
 
 -- The model's call on what the registers stand for: what it answers, and the controller that it leaves.
@@ -124,7 +125,7 @@ refines-on s long = record {
   rounds = round-refined s long;
   completes = λ f o buffer.
       recording s long f (Whole o buffer) (λ v. rw v) (λ n e. whole-unrecorded (decode s) o n e buffer)
-      (λ b. rw (whole-same (decode s) f o buffer) b);
+      (λ b. rw (whole-leaves (decode s) f o buffer .0) b);
   clears = plain s long noFlash Clear (λ v. rw v) (λ n. refl) (λ e b. rw e b);
 }
 
