@@ -4,3 +4,4 @@ pub mod Written
 pub mod Stored
 pub mod There
 pub mod Cleared
+pub mod Lying

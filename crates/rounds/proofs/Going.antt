@@ -1,14 +1,13 @@
 -- Whether the step of the registers would move a word, and the bank of that word. Assumes nothing.
 use Prim.Native.Nat.{ℕ, _≤_, _<_}
-use mathlib.Core.Path.{_≡_, refl, ap, sym, subst, _∙_}
-use mathlib.Core.Bool.{Bool, true, false, not, cond}
+use mathlib.Core.Path.{_≡_, ap, sym, subst, _∙_}
+use mathlib.Core.Bool.{Bool, true, false, not}
 use mathlib.Core.List.{List}
 use lib.Dec.{eqb}
 use lib.ListN.{getD}
 use Rattle.model.specs.Geometry.{pageOf, bankOf, bankOfWord}
-use Rattle.model.specs.Kinds.{isRead, isProgram}
 use Rattle.model.specs.Places.{totalWords, placeOf}
-use Rattle.model.specs.State.{Flash, operationOf, movedOf}
+use Rattle.model.specs.State.{Flash}
 use Rattle.model.specs.Refusals.{accepts, readyAnswer}
 use Rattle.model.specs.Checks.{outOfRange}
 use Rattle.model.specs.Valid.{valid, validWith}
@@ -16,16 +15,15 @@ use Rattle.model.specs.Steps.{stalls}
 use Rattle.model.specs.Rounds.{goes, wouldMove, progressBank, nextBank, hostBank, competes}
 use Rattle.model.specs.declared.ByteAddress.{ByteAddress}
 use Rattle.model.specs.declared.Work.{Work}
-use Rattle.model.specs.declared.Progress.{Progress}
 use Rattle.model.specs.declared.Progress.the-variants.{Idle, Running}
 use Rattle.model.specs.declared.Controller.{Controller}
-use Rattle.model.proofs.Bool.{by-test}
 use Rattle.model.proofs.Moving.{moving, with-valid}
 use Rattle.model.proofs.Accepting.{ready-valid}
 use Rattle.model.proofs.Rounds.{Goes, would-go}
-use Rattle.registers.specs.Layout.{pagesAt, movedAt, runningAt}
-use Rattle.registers.specs.Registers.{isOn, operationAt, workAt, progressAt, encoded, standsFor, decode}
+use Rattle.registers.specs.Layout.{pagesAt, movedAt}
+use Rattle.registers.specs.Registers.{operationAt, workAt, progressAt, encoded, standsFor, decode}
 use Rattle.registers.proofs.Kept.{valid-encoded}
+use Rattle.registers.proofs.Lying.{work-lies, operation-lies}
 use Rattle.validity.proofs.Taken.{taken-stands}
 use Rattle.rounds.specs.Turns.{Going}
 
@@ -52,21 +50,6 @@ module _ (s : List ℕ) (f : Flash) where
   pub work-goes : ready ≡ true → (w : Work) → progressAt s ≡ Running w → not (stalls (standsFor s .queues) w) ≡ wouldMove (decode s) f
   work-goes h w e = ap (goes (standsFor s .queues)) (sym e) ∙ by-progress h
 
--- ---- the operation in progress as it lies in the registers
-
-abbrev workIn : Progress → Work → Work
-workIn Idle v = v
-workIn (Running w) v = w
-
-is-work : (on : Bool) (v w : Work) → cond on (Running v) Idle ≡ Running w → v ≡ w
-is-work true v w e = ap (λ (p : Progress). workIn p v) e
-is-work false v w e = ap (λ (p : Progress). workIn p v) e
-
-operation-lies : (s : List ℕ) → (operationOf (workAt s) ≡ operationAt s) × (movedOf (workAt s) ≡ getD s movedAt 0)
-operation-lies s =
-    by-test (isRead (operationAt s)) (λ r. rw r (refl, refl))
-    (λ n. by-test (isProgram (operationAt s)) (λ p. rw (n, p) (refl, refl)) (λ e. rw (n, e) (refl, refl)))
-
 -- ---- a step that would move a word
 
 module _ {s : List ℕ} (g : Going s) where
@@ -87,7 +70,7 @@ module _ {s : List ℕ} (g : Going s) where
   unfolding standsFor progressAt
   running =
       let e : standsFor s .progress ≡ Running (step-goes .work) = subst (λ (c : Controller). c .progress ≡ Running (step-goes .work)) going-stands (step-goes .running) in
-      e ∙ ap (λ (w : Work). Running w) (sym (is-work (isOn (getD s runningAt 0)) (workAt s) (step-goes .work) e))
+      e ∙ ap (λ (w : Work). Running w) (sym (work-lies s (step-goes .work) e))
 
   abbrev d : ℕ
   d = getD s pagesAt 0

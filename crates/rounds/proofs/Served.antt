@@ -1,5 +1,5 @@
 -- What a round tells and leaves, by who is served. Assumes nothing.
-use Prim.Native.Nat.{ℕ, zero, suc, _+_, _≤_}
+use Prim.Native.Nat.{ℕ, _+_}
 use native.Mathlib.Omega.{arith}
 use mathlib.Core.Path.{_≡_, refl, ap, sym, _∙_}
 use mathlib.Core.Bool.{true, false}
@@ -18,8 +18,9 @@ use Rattle.model.specs.declared.Turn.the-variants.{Unasked}
 use Rattle.model.specs.declared.Controller.{Controller}
 use Rattle.model.proofs.Rounds.{would-go, goes-accepted, step-leaves-alone}
 use Rattle.registers.specs.Layout.{lostFrom}
-use Rattle.registers.specs.Registers.{standsFor, decode, put}
+use Rattle.registers.specs.Registers.{decode, put}
 use Rattle.registers.proofs.Kept.{put-back}
+use Rattle.registers.proofs.Lying.{lost-lies, two-counts}
 use Rattle.registers.proofs.Written.{put-lost}
 use Rattle.calls.specs.Calls.{LeftFlash, hostTold, roundLeft, stepIn, hostReadIn}
 use Rattle.calls.proofs.Movements.{step-tells}
@@ -60,17 +61,6 @@ unfolding hostReadIn
 left-host-alone s f a = refl
 
 -- ---- host and step in one bank
-
--- A bank's lost count, where it lies.
-lost-lies : (s : List ℕ) (bank : ℕ) → bank ≤ 1 → getD s (lostFrom + bank) 0 ≡ lostIn (standsFor s) bank
-unfolding standsFor
-lost-lies s zero b = refl
-lost-lies s (suc zero) b = refl
-lost-lies s (suc (suc n)) b = absurd (omega arith)
-
-two-counts : (s : List ℕ) → length (standsFor s .physical .lost) ≡ 2
-unfolding standsFor
-two-counts s = refl
 
 -- What a step tells and leaves where the host waits, and its bank's count returns to 0.
 abbrev pub instead : ℕ → LeftFlash ToldStep → LeftFlash ToldRound
