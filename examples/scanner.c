@@ -4,7 +4,7 @@
  *     ./lurgabel run examples/scanner.c
  *
  * It programs its scans into a page of the flash, loses its battery, finds the scans again and sends them. Then it
- * makes the mistake that the bench is there for: it erases a page that it takes for its own.
+ * makes the mistake that the bench is there for: it erases a page that it takes for its own, and asks who refused.
  */
 #include <inttypes.h>
 #include <stdbool.h>
@@ -193,10 +193,13 @@ static uint32_t meters_listed(void) {
     return word;
 }
 
+/* The form of a call that ends in _by also says who decided. */
 static void erase_foreign_page(void) {
-    lurgabel_answer answer = lurgabel_run(&controller, flash, IMAGE_WORDS, erase_of(METER_PAGE), NULL, 0, NULL);
+    lurgabel_operation erase = erase_of(METER_PAGE);
+    lurgabel_decider by;
+    lurgabel_answer answer = lurgabel_run_by(&controller, flash, IMAGE_WORDS, erase, NULL, 0, NULL, &by);
     require(answer == LURGABEL_DENIED, "the erase of a foreign page was not refused");
-    printf("  refused: %s (%d)\n", lurgabel_answer_text(answer), (int)answer);
+    printf("  refused by %s: %s (%d)\n", lurgabel_decider_text(by), lurgabel_answer_text(answer), (int)answer);
 }
 
 static void print_error_record(void) {

@@ -4,8 +4,9 @@
  * A bench holds two things: a lurgabel_controller, which is plain data, and the image of the flash, an array of
  * LURGABEL_IMAGE_WORDS(D) bus words. Both are lent to a call and changed where they lie. Every call takes any
  * controller, also a broken one, and any image length, and answers; it never traps. A refusal gives its number
- * (lurgabel_answer), otherwise a word of 0, a bit count of 0 and no seeds, and leaves every number of the controller as
- * it was, unless the table at lurgabel_answer says 'recorded', or a refused host read uses its turn (lurgabel_round).
+ * (lurgabel_answer) and, where rights deny, who decided (lurgabel_decider), otherwise a word of 0, a bit count of 0 and
+ * no seeds. It leaves every number of the controller as it was, unless the table at lurgabel_answer says 'recorded', or
+ * a refused host read uses its turn (lurgabel_round).
  *
  * The calls are proved against the definitions in crates/model/specs, for every input. What is not proved is the
  * boundary itself (this header); its tests are in tests/ and reference/.
@@ -24,8 +25,8 @@ extern "C" {
 #endif
 
 /* Raised whenever lurgabel_controller or a function of the library changes. The library's names carry it, so that a
- * library that does not fit this header does not link: the linker misses 'lurgabel_layout3_reset' and the others. */
-#define LURGABEL_LAYOUT 3
+ * library that does not fit this header does not link: the linker misses 'lurgabel_layout4_reset' and the others. */
+#define LURGABEL_LAYOUT 4
 
 /* Before each call below. An answer that nobody looks at is a refusal that nobody sees, so the compiler warns of it.
  * Where an answer does not matter, lurgabel_drop(lurgabel_pop(&c, NULL)) says so; gcc does not take (void) for it. */
@@ -127,7 +128,8 @@ typedef enum lurgabel_answer {
     LURGABEL_SHORT_BUFFER = 6,    /* the buffer of a whole read or program is shorter than its count: all unchanged */
     LURGABEL_OUT_OF_RANGE = 7,    /* the address or the span leaves its pages: recorded */
     LURGABEL_CROSSES_WINDOW = 8,  /* a program's bytes lie in different 64-byte windows: recorded */
-    LURGABEL_DENIED = 9,          /* the rights do not allow it: recorded; a read still starts, and delivers ones */
+    LURGABEL_DENIED = 9,          /* the rights do not allow it, see lurgabel_decider: recorded; a read still starts,
+                                     and delivers ones */
     LURGABEL_QUEUE_EMPTY = 10,    /* pop with no word in the read queue: all unchanged */
     LURGABEL_QUEUE_FULL = 11,     /* push with 16 words in the program queue: all unchanged */
     LURGABEL_UNEXPECTED = 12,     /* step with nothing in progress; push with no program, or all its words pushed;
@@ -156,6 +158,56 @@ static inline const char *lurgabel_answer_text(lurgabel_answer answer) {
     case LURGABEL_UNEXPECTED: return "nothing in progress that takes this call";
     case LURGABEL_BAD_SETTING: return "no such setting, or a value out of range";
     default: return "no such answer";
+    }
+}
+
+/* Who decided, where an answer is LURGABEL_DENIED, and so which setting to look at. What may be done with a page is one
+ * setting's decision alone, and that setting is the page's decider:
+ *
+ * - of a data page, the lowest-numbered region that is on and holds it; if there is none, the default rights;
+ * - of an information page, its own setting, be it on or off;
+ * - of a seed page that is closed, the seed lock in place of the setting, whatever that says, also where it would allow
+ *   the access. The creator's page is closed unless provision is enabled and the seeds are not locked, the owner's page
+ *   unless provision is enabled.
+ *
+ * A read may cover several pages: it names the decider of the first one, in the order of its words, that lacks the read
+ * right. A bank erase looks at no page: it names its bank's permission.
+ *
+ * A decider is reported and not recorded: it comes with the answer, from the calls whose names end in _by and in the
+ * reply of a round, and no number of the controller tells of it later. With every answer but LURGABEL_DENIED it is
+ * LURGABEL_NO_DECIDER. */
+typedef enum lurgabel_decider {
+    LURGABEL_BY_REGION_0 = 0,          /* regions[0]; a decider below LURGABEL_REGIONS is a region's number */
+    LURGABEL_BY_REGION_1 = 1,
+    LURGABEL_BY_REGION_2 = 2,
+    LURGABEL_BY_REGION_3 = 3,
+    LURGABEL_BY_REGION_4 = 4,
+    LURGABEL_BY_REGION_5 = 5,
+    LURGABEL_BY_REGION_6 = 6,
+    LURGABEL_BY_REGION_7 = 7,
+    LURGABEL_BY_DEFAULT = 8,           /* default_rights */
+    LURGABEL_BY_PAGE_SETTING = 9,      /* the information page's entry in info_pages */
+    LURGABEL_BY_SEED_LOCK = 10,        /* provision_enabled and seeds_locked */
+    LURGABEL_BY_BANK_PERMISSION = 11,  /* the bank's entry in bank_erase */
+    LURGABEL_NO_DECIDER = 255          /* nothing was denied */
+} lurgabel_decider;
+
+static inline const char *lurgabel_decider_text(lurgabel_decider decider) {
+    switch (decider) {
+    case LURGABEL_BY_REGION_0: return "region 0";
+    case LURGABEL_BY_REGION_1: return "region 1";
+    case LURGABEL_BY_REGION_2: return "region 2";
+    case LURGABEL_BY_REGION_3: return "region 3";
+    case LURGABEL_BY_REGION_4: return "region 4";
+    case LURGABEL_BY_REGION_5: return "region 5";
+    case LURGABEL_BY_REGION_6: return "region 6";
+    case LURGABEL_BY_REGION_7: return "region 7";
+    case LURGABEL_BY_DEFAULT: return "default rights";
+    case LURGABEL_BY_PAGE_SETTING: return "information page setting";
+    case LURGABEL_BY_SEED_LOCK: return "seed lock";
+    case LURGABEL_BY_BANK_PERMISSION: return "bank erase permission";
+    case LURGABEL_NO_DECIDER: return "nobody";
+    default: return "no such decider";
     }
 }
 
@@ -197,12 +249,13 @@ static inline const char *lurgabel_turn_text(lurgabel_turn turn) {
 /* Look at a turn before its answer: LURGABEL_ACCEPTED says nothing of a side that was not served. */
 typedef struct lurgabel_round_reply {
     lurgabel_turn host_turn;
-    lurgabel_answer host_answer;  /* of a served host read, else LURGABEL_ACCEPTED */
-    uint32_t word;                /* of a served and accepted host read, else 0 */
+    lurgabel_answer host_answer;    /* of a served host read, else LURGABEL_ACCEPTED */
+    lurgabel_decider host_decider;  /* of a served and denied host read, else LURGABEL_NO_DECIDER */
+    uint32_t word;                  /* of a served and accepted host read, else 0 */
     lurgabel_turn step_turn;
-    lurgabel_answer step_answer;  /* of a served step, else LURGABEL_ACCEPTED */
-    lurgabel_movement movement;   /* of a served step; LURGABEL_STALLED if it waits, LURGABEL_NONE if it is unasked */
-    uint32_t bits;                /* of a served step, else 0 */
+    lurgabel_answer step_answer;    /* of a served step, else LURGABEL_ACCEPTED */
+    lurgabel_movement movement;     /* of a served step; LURGABEL_STALLED if it waits, LURGABEL_NONE if it is unasked */
+    uint32_t bits;                  /* of a served step, else 0 */
 } lurgabel_round_reply;
 
 /* ---- the controller's state ----------------------------------------------------------------------------------- */
@@ -336,6 +389,11 @@ typedef struct lurgabel_initialised {
     lurgabel_seeds seeds;
 } lurgabel_initialised;
 
+typedef struct lurgabel_started {
+    uint32_t answer;
+    uint32_t decider;
+} lurgabel_started;
+
 typedef struct lurgabel_stepped {
     uint32_t answer;
     uint32_t movement;
@@ -349,11 +407,19 @@ typedef struct lurgabel_fetched {
 
 typedef struct lurgabel_completed {
     uint32_t answer;
+    uint32_t decider;
     uint32_t bits;
 } lurgabel_completed;
 
+typedef struct lurgabel_host_fetched {
+    uint32_t answer;
+    uint32_t decider;
+    uint32_t word;
+} lurgabel_host_fetched;
+
 typedef struct lurgabel_viewed {
     uint32_t answer;
+    uint32_t decider;
     uint32_t start;  /* the bus word of the image at which the view starts; 0 if it is refused */
 } lurgabel_viewed;
 
@@ -361,6 +427,7 @@ typedef struct lurgabel_viewed {
 typedef struct lurgabel_rounded {
     uint32_t host_turn;
     uint32_t host_answer;
+    uint32_t host_decider;
     uint32_t word;
     uint32_t step_turn;
     uint32_t step_answer;
@@ -369,90 +436,103 @@ typedef struct lurgabel_rounded {
 } lurgabel_rounded;
 
 /* A flag is off at 0 and on otherwise; rights or an info_type over 255 count as 255. */
-uint32_t lurgabel_layout3_reset(lurgabel_controller *c, uint32_t data_pages);
-uint32_t lurgabel_layout3_set_inputs(lurgabel_controller *c, uint32_t provision_enabled, uint32_t seeds_locked);
-uint32_t lurgabel_layout3_set_region(lurgabel_controller *c, uint32_t number, lurgabel_region region);
-uint32_t lurgabel_layout3_set_default_rights(lurgabel_controller *c, uint32_t rights);
-uint32_t lurgabel_layout3_set_info_page(lurgabel_controller *c, uint32_t bank, uint32_t info_type, uint32_t page,
+uint32_t lurgabel_layout4_reset(lurgabel_controller *c, uint32_t data_pages);
+uint32_t lurgabel_layout4_set_inputs(lurgabel_controller *c, uint32_t provision_enabled, uint32_t seeds_locked);
+uint32_t lurgabel_layout4_set_region(lurgabel_controller *c, uint32_t number, lurgabel_region region);
+uint32_t lurgabel_layout4_set_default_rights(lurgabel_controller *c, uint32_t rights);
+uint32_t lurgabel_layout4_set_info_page(lurgabel_controller *c, uint32_t bank, uint32_t info_type, uint32_t page,
                                         lurgabel_page_setting setting);
-uint32_t lurgabel_layout3_set_bank_erase(lurgabel_controller *c, uint32_t bank, uint32_t on);
-uint32_t lurgabel_layout3_clear_errors(lurgabel_controller *c);
-lurgabel_initialised lurgabel_layout3_initialise(lurgabel_controller *c, const uint32_t *image, size_t image_words);
-uint32_t lurgabel_layout3_start(lurgabel_controller *c, lurgabel_operation operation);
-lurgabel_stepped lurgabel_layout3_step(lurgabel_controller *c, uint32_t *image, size_t image_words);
-uint32_t lurgabel_layout3_push(lurgabel_controller *c, uint32_t word);
-lurgabel_fetched lurgabel_layout3_pop(lurgabel_controller *c);
-lurgabel_completed lurgabel_layout3_run(lurgabel_controller *c, uint32_t *image, size_t image_words,
+uint32_t lurgabel_layout4_set_bank_erase(lurgabel_controller *c, uint32_t bank, uint32_t on);
+uint32_t lurgabel_layout4_clear_errors(lurgabel_controller *c);
+lurgabel_initialised lurgabel_layout4_initialise(lurgabel_controller *c, const uint32_t *image, size_t image_words);
+lurgabel_started lurgabel_layout4_start(lurgabel_controller *c, lurgabel_operation operation);
+lurgabel_stepped lurgabel_layout4_step(lurgabel_controller *c, uint32_t *image, size_t image_words);
+uint32_t lurgabel_layout4_push(lurgabel_controller *c, uint32_t word);
+lurgabel_fetched lurgabel_layout4_pop(lurgabel_controller *c);
+lurgabel_completed lurgabel_layout4_run(lurgabel_controller *c, uint32_t *image, size_t image_words,
                                         lurgabel_operation operation, uint32_t *buffer, size_t buffer_words);
-lurgabel_fetched lurgabel_layout3_host_read(const lurgabel_controller *c, const uint32_t *image, size_t image_words,
-                                            uint32_t address);
-lurgabel_rounded lurgabel_layout3_round(lurgabel_controller *c, uint32_t *image, size_t image_words,
+lurgabel_host_fetched lurgabel_layout4_host_read(const lurgabel_controller *c, const uint32_t *image,
+                                                 size_t image_words, uint32_t address);
+lurgabel_rounded lurgabel_layout4_round(lurgabel_controller *c, uint32_t *image, size_t image_words,
                                         uint32_t host_asks, uint32_t host_address, uint32_t step_asks);
-lurgabel_viewed lurgabel_layout3_view(const lurgabel_controller *c, const uint32_t *image, size_t image_words,
+lurgabel_viewed lurgabel_layout4_view(const lurgabel_controller *c, const uint32_t *image, size_t image_words,
                                       uint32_t page);
-uint32_t lurgabel_layout3_rma(lurgabel_controller *c, uint32_t *image, size_t image_words);
+uint32_t lurgabel_layout4_rma(lurgabel_controller *c, uint32_t *image, size_t image_words);
 
 /* ---- the calls ------------------------------------------------------------------------------------------------ */
 
 /* Each changes *c as its rule says and returns the answer. A pointer that a value goes to may be NULL. The controller,
  * an image and a buffer are lent for the time of the call, and none of them may overlap another. An image and a buffer
  * have as many words as their length says; with a length of 0 they may be NULL. A length that is not the memory's, as
- * any other length with NULL, is the caller's error and undefined, as everywhere in C: no answer tells of it. */
+ * any other length with NULL, is the caller's error and undefined, as everywhere in C: no answer tells of it.
+ *
+ * A call that rights can deny has a second form, whose name ends in _by and which also says who decided. *by is written
+ * in every case: it is LURGABEL_NO_DECIDER unless the answer is LURGABEL_DENIED. */
 
 /* Resets any controller, whatever stands in it (a new variable is best set to zeros), to D data pages in each bank:
  * every setting and input off or 0. It touches no image. Checks D alone. */
 LURGABEL_CALL lurgabel_answer lurgabel_reset(lurgabel_controller *c, uint32_t data_pages) {
-    return LURGABEL_AS(lurgabel_answer, lurgabel_layout3_reset(c, data_pages));
+    return LURGABEL_AS(lurgabel_answer, lurgabel_layout4_reset(c, data_pages));
 }
 
 /* Inputs and settings: refused while an operation is in progress, allowed when disabled. */
 LURGABEL_CALL lurgabel_answer lurgabel_set_inputs(lurgabel_controller *c, bool provision_enabled, bool seeds_locked) {
-    return LURGABEL_AS(lurgabel_answer, lurgabel_layout3_set_inputs(c, provision_enabled, seeds_locked));
+    return LURGABEL_AS(lurgabel_answer, lurgabel_layout4_set_inputs(c, provision_enabled, seeds_locked));
 }
 
 /* Region 0 to 7. Any `on` but 0 switches it on. */
 LURGABEL_CALL lurgabel_answer lurgabel_set_region(lurgabel_controller *c, uint32_t number, lurgabel_region region) {
-    return LURGABEL_AS(lurgabel_answer, lurgabel_layout3_set_region(c, number, region));
+    return LURGABEL_AS(lurgabel_answer, lurgabel_layout4_set_region(c, number, region));
 }
 
 LURGABEL_CALL lurgabel_answer lurgabel_set_default_rights(lurgabel_controller *c, uint32_t rights) {
-    return LURGABEL_AS(lurgabel_answer, lurgabel_layout3_set_default_rights(c, rights));
+    return LURGABEL_AS(lurgabel_answer, lurgabel_layout4_set_default_rights(c, rights));
 }
 
 /* An information page, by its bank, its type and its number in the type. Any `on` but 0 switches it on. */
 LURGABEL_CALL lurgabel_answer lurgabel_set_info_page(lurgabel_controller *c, uint32_t bank, uint32_t info_type,
                                                      uint32_t page, lurgabel_page_setting setting) {
-    return LURGABEL_AS(lurgabel_answer, lurgabel_layout3_set_info_page(c, bank, info_type, page, setting));
+    return LURGABEL_AS(lurgabel_answer, lurgabel_layout4_set_info_page(c, bank, info_type, page, setting));
 }
 
 LURGABEL_CALL lurgabel_answer lurgabel_set_bank_erase(lurgabel_controller *c, uint32_t bank, bool on) {
-    return LURGABEL_AS(lurgabel_answer, lurgabel_layout3_set_bank_erase(c, bank, on));
+    return LURGABEL_AS(lurgabel_answer, lurgabel_layout4_set_bank_erase(c, bank, on));
 }
 
 /* Clears the recorded kinds and the last address. */
 LURGABEL_CALL lurgabel_answer lurgabel_clear_errors(lurgabel_controller *c) {
-    return LURGABEL_AS(lurgabel_answer, lurgabel_layout3_clear_errors(c));
+    return LURGABEL_AS(lurgabel_answer, lurgabel_layout4_clear_errors(c));
 }
 
 /* Makes a controller that was reset ready. With provision enabled the seeds are handed out. */
 LURGABEL_CALL lurgabel_answer lurgabel_initialise(lurgabel_controller *c, const uint32_t *image, size_t image_words,
                                                   lurgabel_seeds *seeds) {
-    lurgabel_initialised r = lurgabel_layout3_initialise(c, image, image_words);
+    lurgabel_initialised r = lurgabel_layout4_initialise(c, image, image_words);
     if (seeds != NULL) {
         *seeds = r.seeds;
     }
     return LURGABEL_AS(lurgabel_answer, r.answer);
 }
 
-/* Starts an operation, which steps then carry out. */
+/* Starts an operation, which steps then carry out. A denied read starts too: its decider is reported here, and its
+ * steps, which are accepted, report none. */
+LURGABEL_CALL lurgabel_answer lurgabel_start_by(lurgabel_controller *c, lurgabel_operation operation,
+                                                lurgabel_decider *by) {
+    lurgabel_started r = lurgabel_layout4_start(c, operation);
+    if (by != NULL) {
+        *by = LURGABEL_AS(lurgabel_decider, r.decider);
+    }
+    return LURGABEL_AS(lurgabel_answer, r.answer);
+}
+
 LURGABEL_CALL lurgabel_answer lurgabel_start(lurgabel_controller *c, lurgabel_operation operation) {
-    return LURGABEL_AS(lurgabel_answer, lurgabel_layout3_start(c, operation));
+    return lurgabel_start_by(c, operation, NULL);
 }
 
 /* Moves one word of the operation in progress; `bits` is how many bits it changed in the flash. */
 LURGABEL_CALL lurgabel_answer lurgabel_step(lurgabel_controller *c, uint32_t *image, size_t image_words,
                                             lurgabel_movement *movement, uint32_t *bits) {
-    lurgabel_stepped r = lurgabel_layout3_step(c, image, image_words);
+    lurgabel_stepped r = lurgabel_layout4_step(c, image, image_words);
     if (movement != NULL) {
         *movement = LURGABEL_AS(lurgabel_movement, r.movement);
     }
@@ -464,12 +544,12 @@ LURGABEL_CALL lurgabel_answer lurgabel_step(lurgabel_controller *c, uint32_t *im
 
 /* Gives a program in progress its next word. */
 LURGABEL_CALL lurgabel_answer lurgabel_push(lurgabel_controller *c, uint32_t word) {
-    return LURGABEL_AS(lurgabel_answer, lurgabel_layout3_push(c, word));
+    return LURGABEL_AS(lurgabel_answer, lurgabel_layout4_push(c, word));
 }
 
 /* Takes the oldest word that a read has delivered. */
 LURGABEL_CALL lurgabel_answer lurgabel_pop(lurgabel_controller *c, uint32_t *word) {
-    lurgabel_fetched r = lurgabel_layout3_pop(c);
+    lurgabel_fetched r = lurgabel_layout4_pop(c);
     if (word != NULL) {
         *word = r.word;
     }
@@ -479,29 +559,46 @@ LURGABEL_CALL lurgabel_answer lurgabel_pop(lurgabel_controller *c, uint32_t *wor
 /* Runs a whole operation: start, steps, pushes and pops until it is finished and drained. A program takes its words
  * from the first `count` places of the buffer, a read puts its words there; an erase leaves the buffer alone. A denied
  * read answers LURGABEL_DENIED and puts ones there. `bits` is the sum over the steps. */
-LURGABEL_CALL lurgabel_answer lurgabel_run(lurgabel_controller *c, uint32_t *image, size_t image_words,
-                                           lurgabel_operation operation, uint32_t *buffer, size_t buffer_words,
-                                           uint32_t *bits) {
-    lurgabel_completed r = lurgabel_layout3_run(c, image, image_words, operation, buffer, buffer_words);
+LURGABEL_CALL lurgabel_answer lurgabel_run_by(lurgabel_controller *c, uint32_t *image, size_t image_words,
+                                              lurgabel_operation operation, uint32_t *buffer, size_t buffer_words,
+                                              uint32_t *bits, lurgabel_decider *by) {
+    lurgabel_completed r = lurgabel_layout4_run(c, image, image_words, operation, buffer, buffer_words);
     if (bits != NULL) {
         *bits = r.bits;
     }
+    if (by != NULL) {
+        *by = LURGABEL_AS(lurgabel_decider, r.decider);
+    }
     return LURGABEL_AS(lurgabel_answer, r.answer);
+}
+
+LURGABEL_CALL lurgabel_answer lurgabel_run(lurgabel_controller *c, uint32_t *image, size_t image_words,
+                                           lurgabel_operation operation, uint32_t *buffer, size_t buffer_words,
+                                           uint32_t *bits) {
+    return lurgabel_run_by(c, image, image_words, operation, buffer, buffer_words, bits, NULL);
 }
 
 /* Reads one data word past the queues, also during an operation. It leaves *c as it is today; later models may note
  * there what was read. */
-LURGABEL_CALL lurgabel_answer lurgabel_host_read(lurgabel_controller *c, const uint32_t *image, size_t image_words,
-                                                 uint32_t address, uint32_t *word) {
-    lurgabel_fetched r = lurgabel_layout3_host_read(c, image, image_words, address);
+LURGABEL_CALL lurgabel_answer lurgabel_host_read_by(lurgabel_controller *c, const uint32_t *image, size_t image_words,
+                                                    uint32_t address, uint32_t *word, lurgabel_decider *by) {
+    lurgabel_host_fetched r = lurgabel_layout4_host_read(c, image, image_words, address);
     if (word != NULL) {
         *word = r.word;
+    }
+    if (by != NULL) {
+        *by = LURGABEL_AS(lurgabel_decider, r.decider);
     }
     return LURGABEL_AS(lurgabel_answer, r.answer);
 }
 
+LURGABEL_CALL lurgabel_answer lurgabel_host_read(lurgabel_controller *c, const uint32_t *image, size_t image_words,
+                                                 uint32_t address, uint32_t *word) {
+    return lurgabel_host_read_by(c, image, image_words, address, word, NULL);
+}
+
 /* A round: the host asks for a read, the firmware for a step, or both at the same time, as on the chip. The host reads
- * at *host_address; with NULL it asks for nothing. Whoever is served gets what lurgabel_host_read or lurgabel_step
+ * at *host_address; with NULL it asks for nothing. Whoever is served gets what lurgabel_host_read_by or lurgabel_step
  * would answer.
  *
  * Where the host's address and the step's next word lie in the same bank, one of them has to wait. The host goes first,
@@ -519,10 +616,11 @@ LURGABEL_CALL lurgabel_answer lurgabel_host_read(lurgabel_controller *c, const u
 LURGABEL_CALL lurgabel_round_reply lurgabel_round(lurgabel_controller *c, uint32_t *image, size_t image_words,
                                                   const uint32_t *host_address, bool step) {
     bool host = host_address != NULL;
-    lurgabel_rounded r = lurgabel_layout3_round(c, image, image_words, host, host ? *host_address : 0u, step);
+    lurgabel_rounded r = lurgabel_layout4_round(c, image, image_words, host, host ? *host_address : 0u, step);
     lurgabel_round_reply reply;
     reply.host_turn = LURGABEL_AS(lurgabel_turn, r.host_turn);
     reply.host_answer = LURGABEL_AS(lurgabel_answer, r.host_answer);
+    reply.host_decider = LURGABEL_AS(lurgabel_decider, r.host_decider);
     reply.word = r.word;
     reply.step_turn = LURGABEL_AS(lurgabel_turn, r.step_turn);
     reply.step_answer = LURGABEL_AS(lurgabel_answer, r.step_answer);
@@ -532,18 +630,26 @@ LURGABEL_CALL lurgabel_round_reply lurgabel_round(lurgabel_controller *c, uint32
 }
 
 /* The 256 words of a data page (0 to 2D - 1) inside the caller's own image, or NULL if the view is refused. */
-LURGABEL_CALL const uint32_t *lurgabel_view(const lurgabel_controller *c, const uint32_t *image, size_t image_words,
-                                            uint32_t page, lurgabel_answer *answer) {
-    lurgabel_viewed r = lurgabel_layout3_view(c, image, image_words, page);
+LURGABEL_CALL const uint32_t *lurgabel_view_by(const lurgabel_controller *c, const uint32_t *image, size_t image_words,
+                                               uint32_t page, lurgabel_answer *answer, lurgabel_decider *by) {
+    lurgabel_viewed r = lurgabel_layout4_view(c, image, image_words, page);
     if (answer != NULL) {
         *answer = LURGABEL_AS(lurgabel_answer, r.answer);
+    }
+    if (by != NULL) {
+        *by = LURGABEL_AS(lurgabel_decider, r.decider);
     }
     return r.answer == LURGABEL_ACCEPTED ? image + r.start : NULL;
 }
 
+LURGABEL_CALL const uint32_t *lurgabel_view(const lurgabel_controller *c, const uint32_t *image, size_t image_words,
+                                            uint32_t page, lurgabel_answer *answer) {
+    return lurgabel_view_by(c, image, image_words, page, answer, NULL);
+}
+
 /* Enters RMA: wipes every data page and the special pages, empties the queues and disables the controller. */
 LURGABEL_CALL lurgabel_answer lurgabel_rma(lurgabel_controller *c, uint32_t *image, size_t image_words) {
-    return LURGABEL_AS(lurgabel_answer, lurgabel_layout3_rma(c, image, image_words));
+    return LURGABEL_AS(lurgabel_answer, lurgabel_layout4_rma(c, image, image_words));
 }
 
 /* ---- helpers -------------------------------------------------------------------------------------------------- */

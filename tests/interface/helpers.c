@@ -57,6 +57,29 @@ void test_texts(void) {
     check(strcmp(lurgabel_turn_text((lurgabel_turn)3), "no such turn") == 0, "turn 3");
 }
 
+/* Every number has the text of its decider, or none. */
+void test_decider_texts(void) {
+    static const char *const texts[12] = {
+        "region 0",
+        "region 1",
+        "region 2",
+        "region 3",
+        "region 4",
+        "region 5",
+        "region 6",
+        "region 7",
+        "default rights",
+        "information page setting",
+        "seed lock",
+        "bank erase permission",
+    };
+    size_t i;
+    for (i = 0; i < 256; i++) {
+        const char *text = i < 12 ? texts[i] : i == 255 ? "nobody" : "no such decider";
+        check_at(strcmp(lurgabel_decider_text((lurgabel_decider)i), text) == 0, "decider", i);
+    }
+}
+
 static void join(char *text, uint32_t recorded, lurgabel_answer kind, const char *name) {
     if (recorded & LURGABEL_RECORDED(kind)) {
         strcat(text, text[0] == 0 ? "" : ", ");

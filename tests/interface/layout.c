@@ -60,6 +60,10 @@ SIZE(lurgabel_initialised, 18);
 FIELD(lurgabel_initialised, answer, 0, 1);
 FIELD(lurgabel_initialised, seeds, 1, 17);
 
+SIZE(lurgabel_started, 2);
+FIELD(lurgabel_started, answer, 0, 1);
+FIELD(lurgabel_started, decider, 1, 1);
+
 SIZE(lurgabel_stepped, 3);
 FIELD(lurgabel_stepped, answer, 0, 1);
 FIELD(lurgabel_stepped, movement, 1, 1);
@@ -69,29 +73,37 @@ SIZE(lurgabel_fetched, 2);
 FIELD(lurgabel_fetched, answer, 0, 1);
 FIELD(lurgabel_fetched, word, 1, 1);
 
-SIZE(lurgabel_completed, 2);
+SIZE(lurgabel_completed, 3);
 FIELD(lurgabel_completed, answer, 0, 1);
-FIELD(lurgabel_completed, bits, 1, 1);
+FIELD(lurgabel_completed, decider, 1, 1);
+FIELD(lurgabel_completed, bits, 2, 1);
 
-SIZE(lurgabel_viewed, 2);
+SIZE(lurgabel_host_fetched, 3);
+FIELD(lurgabel_host_fetched, answer, 0, 1);
+FIELD(lurgabel_host_fetched, decider, 1, 1);
+FIELD(lurgabel_host_fetched, word, 2, 1);
+
+SIZE(lurgabel_viewed, 3);
 FIELD(lurgabel_viewed, answer, 0, 1);
-FIELD(lurgabel_viewed, start, 1, 1);
+FIELD(lurgabel_viewed, decider, 1, 1);
+FIELD(lurgabel_viewed, start, 2, 1);
 
-SIZE(lurgabel_rounded, 7);
+SIZE(lurgabel_rounded, 8);
 FIELD(lurgabel_rounded, host_turn, 0, 1);
 FIELD(lurgabel_rounded, host_answer, 1, 1);
-FIELD(lurgabel_rounded, word, 2, 1);
-FIELD(lurgabel_rounded, step_turn, 3, 1);
-FIELD(lurgabel_rounded, step_answer, 4, 1);
-FIELD(lurgabel_rounded, movement, 5, 1);
-FIELD(lurgabel_rounded, bits, 6, 1);
+FIELD(lurgabel_rounded, host_decider, 2, 1);
+FIELD(lurgabel_rounded, word, 3, 1);
+FIELD(lurgabel_rounded, step_turn, 4, 1);
+FIELD(lurgabel_rounded, step_answer, 5, 1);
+FIELD(lurgabel_rounded, movement, 6, 1);
+FIELD(lurgabel_rounded, bits, 7, 1);
 
 /* Whoever changes a size, a place or a function in this file raises the layout. */
-HOLDS(layout, LURGABEL_LAYOUT == 3 && LURGABEL_NUMBERS == 137);
+HOLDS(layout, LURGABEL_LAYOUT == 4 && LURGABEL_NUMBERS == 137);
 
 #define FUNCTION(result, name, arguments) \
-    extern result(*const name##_of_layout_3) arguments; \
-    result(*const name##_of_layout_3) arguments = lurgabel_layout3_##name
+    extern result(*const name##_of_layout_4) arguments; \
+    result(*const name##_of_layout_4) arguments = lurgabel_layout4_##name
 
 FUNCTION(uint32_t, reset, (lurgabel_controller *, uint32_t));
 FUNCTION(uint32_t, set_inputs, (lurgabel_controller *, uint32_t, uint32_t));
@@ -101,16 +113,36 @@ FUNCTION(uint32_t, set_info_page, (lurgabel_controller *, uint32_t, uint32_t, ui
 FUNCTION(uint32_t, set_bank_erase, (lurgabel_controller *, uint32_t, uint32_t));
 FUNCTION(uint32_t, clear_errors, (lurgabel_controller *));
 FUNCTION(lurgabel_initialised, initialise, (lurgabel_controller *, const uint32_t *, size_t));
-FUNCTION(uint32_t, start, (lurgabel_controller *, lurgabel_operation));
+FUNCTION(lurgabel_started, start, (lurgabel_controller *, lurgabel_operation));
 FUNCTION(lurgabel_stepped, step, (lurgabel_controller *, uint32_t *, size_t));
 FUNCTION(uint32_t, push, (lurgabel_controller *, uint32_t));
 FUNCTION(lurgabel_fetched, pop, (lurgabel_controller *));
 FUNCTION(lurgabel_completed, run,
          (lurgabel_controller *, uint32_t *, size_t, lurgabel_operation, uint32_t *, size_t));
-FUNCTION(lurgabel_fetched, host_read, (const lurgabel_controller *, const uint32_t *, size_t, uint32_t));
+FUNCTION(lurgabel_host_fetched, host_read, (const lurgabel_controller *, const uint32_t *, size_t, uint32_t));
 FUNCTION(lurgabel_rounded, round, (lurgabel_controller *, uint32_t *, size_t, uint32_t, uint32_t, uint32_t));
 FUNCTION(lurgabel_viewed, view, (const lurgabel_controller *, const uint32_t *, size_t, uint32_t));
 FUNCTION(uint32_t, rma, (lurgabel_controller *, uint32_t *, size_t));
+
+/* The calls that rights can deny: firmware that does not ask who decided names none of it. */
+#define CALL(result, name, arguments) \
+    extern result(*const name##_of_firmware) arguments; \
+    result(*const name##_of_firmware) arguments = lurgabel_##name
+
+CALL(lurgabel_answer, start, (lurgabel_controller *, lurgabel_operation));
+CALL(lurgabel_answer, start_by, (lurgabel_controller *, lurgabel_operation, lurgabel_decider *));
+CALL(lurgabel_answer, run,
+     (lurgabel_controller *, uint32_t *, size_t, lurgabel_operation, uint32_t *, size_t, uint32_t *));
+CALL(lurgabel_answer, run_by,
+     (lurgabel_controller *, uint32_t *, size_t, lurgabel_operation, uint32_t *, size_t, uint32_t *,
+      lurgabel_decider *));
+CALL(lurgabel_answer, host_read, (lurgabel_controller *, const uint32_t *, size_t, uint32_t, uint32_t *));
+CALL(lurgabel_answer, host_read_by,
+     (lurgabel_controller *, const uint32_t *, size_t, uint32_t, uint32_t *, lurgabel_decider *));
+CALL(const uint32_t *, view,
+     (const lurgabel_controller *, const uint32_t *, size_t, uint32_t, lurgabel_answer *));
+CALL(const uint32_t *, view_by,
+     (const lurgabel_controller *, const uint32_t *, size_t, uint32_t, lurgabel_answer *, lurgabel_decider *));
 
 /* The numbers are those of documents 01 and 02, typed again. */
 HOLDS(banks, LURGABEL_BANKS == 2);
@@ -154,6 +186,12 @@ HOLDS(answers_5_to_9, LURGABEL_MALFORMED == 5 && LURGABEL_SHORT_BUFFER == 6 && L
                           LURGABEL_CROSSES_WINDOW == 8 && LURGABEL_DENIED == 9);
 HOLDS(answers_10_to_13, LURGABEL_QUEUE_EMPTY == 10 && LURGABEL_QUEUE_FULL == 11 && LURGABEL_UNEXPECTED == 12 &&
                             LURGABEL_BAD_SETTING == 13);
+HOLDS(regions_0_to_3, LURGABEL_BY_REGION_0 == 0 && LURGABEL_BY_REGION_1 == 1 && LURGABEL_BY_REGION_2 == 2 &&
+                          LURGABEL_BY_REGION_3 == 3);
+HOLDS(regions_4_to_7, LURGABEL_BY_REGION_4 == 4 && LURGABEL_BY_REGION_5 == 5 && LURGABEL_BY_REGION_6 == 6 &&
+                          LURGABEL_BY_REGION_7 == 7);
+HOLDS(other_deciders, LURGABEL_BY_DEFAULT == 8 && LURGABEL_BY_PAGE_SETTING == 9 && LURGABEL_BY_SEED_LOCK == 10 &&
+                          LURGABEL_BY_BANK_PERMISSION == 11 && LURGABEL_NO_DECIDER == 255);
 HOLDS(movements, LURGABEL_NONE == 0 && LURGABEL_MOVED == 1 && LURGABEL_FINISHED == 2 && LURGABEL_STALLED == 3);
 HOLDS(turns, LURGABEL_UNASKED == 0 && LURGABEL_WAITING == 1 && LURGABEL_SERVED == 2);
 HOLDS(recorded_bits, LURGABEL_RECORDED(LURGABEL_MALFORMED) == 0x20 && LURGABEL_RECORDED(LURGABEL_DENIED) == 0x200);

@@ -39,8 +39,12 @@ int main(void) {
     run_group("lost turns left by every call", test_lost_turns_left);
     run_group("values of every call", test_values);
     run_group("rounds", test_rounds);
+    run_group("deciders of every page", test_deciders);
+    run_group("decider of the first denied page", test_first_denied_page);
+    run_group("deciders reported", test_reports);
     run_group("image length", test_image_length);
     run_group("texts", test_texts);
+    run_group("texts of the deciders", test_decider_texts);
     run_group("texts of the record", test_recorded_texts);
     run_group("places in the image", test_places);
     run_group("blank image", test_blank_image);

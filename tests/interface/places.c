@@ -5,22 +5,11 @@
 
 static uint32_t flash[LURGABEL_IMAGE_WORDS(LURGABEL_MAX_DATA_PAGES)];
 
-/* Ready, and every page may be touched, the seed pages too. */
-static lurgabel_controller open_everywhere(uint32_t data_pages) {
-    lurgabel_controller c = ready();
-    uint32_t index;
-    c.data_pages = data_pages;
-    c.provision_enabled = 1;
-    for (index = 0; index < 26; index++) {
-        c.info_pages[index] = page_setting(1, LURGABEL_ALL_RIGHTS);
-    }
-    return c;
-}
-
 /* The mark is programmed and must be at its place; it is wiped there, so that one elsewhere would stay. */
 static void test_place(uint32_t data_pages, lurgabel_operation program, uint32_t place, const char *what) {
-    lurgabel_controller c = open_everywhere(data_pages);
+    lurgabel_controller c = open_everywhere();
     uint32_t word = MARK;
+    c.data_pages = data_pages;
     check_at(lurgabel_run(&c, flash, LURGABEL_IMAGE_WORDS(data_pages), program, &word, 1, NULL) == LURGABEL_ACCEPTED,
              what, program.address);
     check_at(flash[place] == MARK, what, program.address);

@@ -5,8 +5,9 @@ static lurgabel_round_reply both_ask(lurgabel_controller *c, uint32_t address) {
     return lurgabel_round(c, image, IMAGE_WORDS, &address, true);
 }
 
+/* Anything but a denial, so that nobody decided it. */
 static bool host_told(lurgabel_round_reply r, lurgabel_turn turn, lurgabel_answer answer, uint32_t word) {
-    return r.host_turn == turn && r.host_answer == answer && r.word == word;
+    return r.host_turn == turn && r.host_answer == answer && r.host_decider == LURGABEL_NO_DECIDER && r.word == word;
 }
 
 static bool step_told(lurgabel_round_reply r, lurgabel_turn turn, lurgabel_answer answer, lurgabel_movement movement,
@@ -205,9 +206,9 @@ static void test_round_flags(void) {
     size_t i;
     for (i = 0; i < sizeof on / sizeof on[0]; i++) {
         lurgabel_controller c = programming();
-        lurgabel_rounded r = lurgabel_layout3_round(&c, image, IMAGE_WORDS, on[i], 0, on[i]);
+        lurgabel_rounded r = lurgabel_layout4_round(&c, image, IMAGE_WORDS, on[i], 0, on[i]);
         check_at(r.host_turn == LURGABEL_SERVED && r.step_turn == LURGABEL_WAITING, "both ask", i);
-        r = lurgabel_layout3_round(&c, image, IMAGE_WORDS, 0, on[i], on[i]);
+        r = lurgabel_layout4_round(&c, image, IMAGE_WORDS, 0, on[i], on[i]);
         check_at(r.host_turn == LURGABEL_UNASKED && r.step_turn == LURGABEL_SERVED && lost(&c, 1, 0), "step alone", i);
     }
 }

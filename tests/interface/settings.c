@@ -82,12 +82,12 @@ static void test_flags(void) {
         expected.info_pages[0].on = 1;
         check_set(lurgabel_set_info_page(&c, 0, 0, 0, page_setting(on[i], 0)), &expected, &c, "information page on", i);
         expected.provision_enabled = 1;
-        check_set((lurgabel_answer)lurgabel_layout3_set_inputs(&c, on[i], 0), &expected, &c, "provision on", i);
+        check_set((lurgabel_answer)lurgabel_layout4_set_inputs(&c, on[i], 0), &expected, &c, "provision on", i);
         expected.provision_enabled = 0;
         expected.seeds_locked = 1;
-        check_set((lurgabel_answer)lurgabel_layout3_set_inputs(&c, 0, on[i]), &expected, &c, "seeds locked", i);
+        check_set((lurgabel_answer)lurgabel_layout4_set_inputs(&c, 0, on[i]), &expected, &c, "seeds locked", i);
         expected.bank_erase[1] = 1;
-        check_set((lurgabel_answer)lurgabel_layout3_set_bank_erase(&c, 1, on[i]), &expected, &c, "bank erase on", i);
+        check_set((lurgabel_answer)lurgabel_layout4_set_bank_erase(&c, 1, on[i]), &expected, &c, "bank erase on", i);
     }
 }
 
@@ -119,8 +119,8 @@ static void test_large_settings(void) {
         check_at(lurgabel_set_region(&c, 0, region(0, 1, 1, large[i])) == LURGABEL_BAD_SETTING, "region's rights", i);
         check_at(lurgabel_set_info_page(&c, 0, 0, 0, page_setting(1, large[i])) == LURGABEL_BAD_SETTING,
                  "page's rights", i);
-        check_at(lurgabel_layout3_set_default_rights(&c, large[i]) == LURGABEL_BAD_SETTING, "default rights", i);
-        check_at(lurgabel_layout3_set_info_page(&c, 0, large[i], 0, page_setting(1, 1)) == LURGABEL_BAD_SETTING,
+        check_at(lurgabel_layout4_set_default_rights(&c, large[i]) == LURGABEL_BAD_SETTING, "default rights", i);
+        check_at(lurgabel_layout4_set_info_page(&c, 0, large[i], 0, page_setting(1, 1)) == LURGABEL_BAD_SETTING,
                  "type", i);
         check_at(same(&before, &c), "all unchanged", i);
     }

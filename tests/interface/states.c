@@ -34,6 +34,16 @@ lurgabel_controller ready(void) {
     return c;
 }
 
+lurgabel_controller open_everywhere(void) {
+    lurgabel_controller c = ready();
+    uint32_t index;
+    c.provision_enabled = 1;
+    for (index = 0; index < 26; index++) {
+        c.info_pages[index] = page_setting(1, LURGABEL_ALL_RIGHTS);
+    }
+    return c;
+}
+
 lurgabel_operation operation(uint32_t kind, uint32_t partition, uint32_t info_type, uint32_t address, uint32_t count) {
     lurgabel_operation o;
     memset(&o, 0, sizeof o);

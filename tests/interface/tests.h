@@ -27,8 +27,12 @@ void test_litter(void);
 void test_operation_fields(void);
 void test_values(void);
 void test_rounds(void);
+void test_deciders(void);
+void test_first_denied_page(void);
+void test_reports(void);
 void test_image_length(void);
 void test_texts(void);
+void test_decider_texts(void);
 void test_recorded_texts(void);
 void test_places(void);
 void test_blank_image(void);
@@ -65,6 +69,7 @@ lurgabel_controller uninitialised(void);  /* what a reset with D = 16 gives */
 lurgabel_controller disabled(void);
 lurgabel_controller locked(void);  /* ready, and no page may be touched */
 lurgabel_controller ready(void);   /* with every right to the data pages */
+lurgabel_controller open_everywhere(void);  /* ready, and every page may be touched, the seed pages too */
 lurgabel_controller in_progress(uint32_t kind, uint32_t address, uint32_t count);
 /* Four words at 0x40: one moved, two queued. Words of an earlier read and a recorded error are there as well. */
 lurgabel_controller programming(void);
@@ -98,6 +103,11 @@ uint32_t address_of(info_page p);
 
 extern uint32_t image[IMAGE_WORDS + 1];
 extern uint32_t buffer[LURGABEL_MAX_COUNT];
+
+/* ---- deciders ------------------------------------------------------------------------------------------------- */
+
+/* What no call reports, so that it shows whether *by was written. */
+#define UNWRITTEN ((lurgabel_decider)77)
 
 /* ---- every call, with inputs that a ready controller takes ---------------------------------------------------- */
 

@@ -124,7 +124,7 @@ static void test_view(void) {
     check(lurgabel_view(&c, image, IMAGE_WORDS, 32, NULL) == NULL, "no place for the answer");
     c = locked();
     check(lurgabel_view(&c, image, IMAGE_WORDS, 0, &answer) == NULL && answer == LURGABEL_DENIED, "denied view");
-    check(lurgabel_layout3_view(&c, image, IMAGE_WORDS, 0).start == 0, "start of a refused view");
+    check(lurgabel_layout4_view(&c, image, IMAGE_WORDS, 0).start == 0, "start of a refused view");
 }
 
 /* RMA wipes the data and the special pages, and nothing else; only a reset ends it. */

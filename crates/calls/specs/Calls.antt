@@ -5,7 +5,7 @@ use mathlib.Core.Bool.{Bool, _||_, not, cond}
 use mathlib.Core.List.{List}
 use lib.Dec.{eqb}
 use Rattle.model.specs.State.{Flash, Leaves}
-use Rattle.model.specs.Refusals.{numberOf, accepts}
+use Rattle.model.specs.Refusals.{numberOf, reported, accepts}
 use Rattle.model.specs.Errors.{isRecorded, clear}
 use Rattle.model.specs.Settings.{setInputs, setRegion, setDefault, setInfo, setErase}
 use Rattle.model.specs.Lifecycle.{reset, initialise, rma}
@@ -33,7 +33,9 @@ use Rattle.model.specs.declared.Fetched.{Fetched}
 use Rattle.model.specs.declared.Stepped.{Stepped}
 use Rattle.model.specs.declared.Initialised.{Initialised}
 use Rattle.registers.specs.Registers.{flagOf, decode, handBack, cleared}
+use Rattle.calls.specs.declared.ToldAnswer.{ToldAnswer}
 use Rattle.calls.specs.declared.ToldWord.{ToldWord}
+use Rattle.calls.specs.declared.ToldHostWord.{ToldHostWord}
 use Rattle.calls.specs.declared.ToldStep.{ToldStep}
 use Rattle.calls.specs.declared.ToldHostTurn.{ToldHostTurn}
 use Rattle.calls.specs.declared.ToldStepTurn.{ToldStepTurn}
@@ -59,6 +61,10 @@ pub record LeftBuffer (Told : Type 0) : Type 0 where
   pub registers : List ℕ
   pub flash : Flash
   pub buffer : List ℕ
+
+-- What is told of an answer that can be 9: its number, and who decided.
+abbrev pub toldAnswer : Answer → ToldAnswer
+toldAnswer a = record { answer = numberOf a; decider = reported a }
 
 -- What is told of a movement.
 abbrev pub movementNumber : Movement → ℕ
@@ -144,7 +150,12 @@ turnNumber Waiting = 1
 turnNumber Served = 2
 
 abbrev pub hostTold : HostTurn → ToldHostTurn
-hostTold h = record { turn = turnNumber (h .turn); answer = numberOf (h .answer); word = h .word }
+hostTold h = record {
+  turn = turnNumber (h .turn);
+  answer = numberOf (h .answer);
+  decider = reported (h .answer);
+  word = h .word;
+}
 
 abbrev pub stepTold : StepTurn → ToldStepTurn
 stepTold t = record {
@@ -182,15 +193,18 @@ resetIn s d = record {
 abbrev pub changes : Answer → Bool
 changes a = accepts a || isRecorded (numberOf a)
 
-abbrev pub startLeft : List ℕ → Outcome → Left ℕ
-startLeft s r = record { told = numberOf (r .answer); registers = handBack (changes (r .answer)) s (r .controller) }
+abbrev pub startLeft : List ℕ → Outcome → Left ToldAnswer
+startLeft s r = record { told = toldAnswer (r .answer); registers = handBack (changes (r .answer)) s (r .controller) }
 
-unfoldable pub startIn : List ℕ → Operation → Left ℕ
+unfoldable pub startIn : List ℕ → Operation → Left ToldAnswer
 startIn s o = startLeft s (start (decode s) o)
+
+abbrev pub toldBits : Answer → ℕ → ToldBits
+toldBits a bits = record { answer = numberOf a; decider = reported a; bits = bits }
 
 abbrev pub wholeLeft : List ℕ → WholeLeaves → LeftBuffer ToldBits
 wholeLeft s l = record {
-  told = record { answer = numberOf (l .result .answer); bits = l .result .bits };
+  told = toldBits (l .result .answer) (l .result .bits);
   registers = handBack (changes (l .result .answer)) s (l .result .controller);
   flash = l .flash;
   buffer = l .buffer;
@@ -201,8 +215,14 @@ wholeIn s f o b = wholeLeft s (whole (decode s) f o b)
 
 -- ---- calls that look at the registers and change nothing
 
-unfoldable pub hostReadIn : List ℕ → Flash → ByteAddress → ToldWord
-hostReadIn s f a = record { answer = numberOf (hostRead (decode s) f a .answer); word = hostRead (decode s) f a .word }
+abbrev pub toldHostWord : Answer → ℕ → ToldHostWord
+toldHostWord a w = record { answer = numberOf a; decider = reported a; word = w }
+
+unfoldable pub hostReadIn : List ℕ → Flash → ByteAddress → ToldHostWord
+hostReadIn s f a = toldHostWord (hostRead (decode s) f a .answer) (hostRead (decode s) f a .word)
+
+abbrev pub toldStart : Answer → ℕ → ToldStart
+toldStart a place = record { answer = numberOf a; decider = reported a; start = place }
 
 unfoldable pub viewIn : List ℕ → Flash → Page → ToldStart
-viewIn s f p = record { answer = numberOf (viewAnswer (decode s) f p); start = view (decode s) f p .start .0 }
+viewIn s f p = toldStart (viewAnswer (decode s) f p) (view (decode s) f p .start .0)

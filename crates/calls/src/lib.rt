@@ -1,10 +1,10 @@
 // What C and Rust hand in and what the calls hand back: small structs of numbers. specs/Calls.antt says what each call tells
 // and leaves.
 ghost use mathlib.Core.Path.{_≡_};
-ghost use Rattle.model.specs.Refusals.{numberOf};
+ghost use Rattle.model.specs.Refusals.{numberOf, reported};
 ghost use Rattle.registers.specs.Registers.{isOn};
 ghost use Rattle.calls.specs.Asked.{byteOf, inputsOf, regionOf, settingOf, operationOf, hostRequestOf};
-ghost use Rattle.calls.specs.Calls.{movementNumber};
+ghost use Rattle.calls.specs.Calls.{toldAnswer, movementNumber};
 use model::Answer;
 use model::ByteAddress;
 use model::HostRequest;
@@ -109,9 +109,24 @@ pub fn host_request(asks: u32, address: u32) -> HostRequest
 
 // ---- what is handed back
 
+// `decider` stands beside every answer that can be 9: it is the number of who decided, or 255.
+#[repr(C)]
+pub struct ToldAnswer {
+    pub answer: u32,
+    pub decider: u32,
+}
+
+// Of a pop, and of a host read.
 #[repr(C)]
 pub struct ToldWord {
     pub answer: u32,
+    pub word: u32,
+}
+
+#[repr(C)]
+pub struct ToldHostWord {
+    pub answer: u32,
+    pub decider: u32,
     pub word: u32,
 }
 
@@ -125,6 +140,7 @@ pub struct ToldStep {
 #[repr(C)]
 pub struct ToldBits {
     pub answer: u32,
+    pub decider: u32,
     pub bits: u32,
 }
 
@@ -133,6 +149,7 @@ pub struct ToldBits {
 pub struct ToldHostTurn {
     pub turn: u32,
     pub answer: u32,
+    pub decider: u32,
     pub word: u32,
 }
 
@@ -154,6 +171,7 @@ pub struct ToldRound {
 #[repr(C)]
 pub struct ToldStart {
     pub answer: u32,
+    pub decider: u32,
     pub start: u32,
 }
 
@@ -170,6 +188,22 @@ pub fn number(a: Answer) -> u32
     ensures { λ r. ⌜ r ≡ numberOf a ⌝ }
 {
     refusals::number_of(a) as u32
+}
+
+pub fn decider(a: Answer) -> u32
+    ensures { λ r. ⌜ r ≡ reported a ⌝ }
+{
+    refusals::reported(a) as u32
+}
+
+pub fn told(a: Answer) -> ToldAnswer
+    ensures { λ r. ⌜ r ≡ toldAnswer a ⌝ }
+{
+    let by = decider(a);
+    ToldAnswer {
+        answer: number(a),
+        decider: by,
+    }
 }
 
 pub fn movement_number(m: Movement) -> u32

@@ -9,7 +9,9 @@ ghost use Rattle.calls.specs.Calls.{resetIn, setInputsIn, setRegionIn, setDefau
 use calls::AskedOperation;
 use calls::AskedRegion;
 use calls::AskedSetting;
+use calls::ToldAnswer;
 use calls::ToldBits;
+use calls::ToldHostWord;
 use calls::ToldRound;
 use calls::ToldSeeds;
 use calls::ToldStart;
@@ -22,21 +24,21 @@ use registers::Registers;
 // ---- reset, inputs and settings
 
 #[no_mangle]
-pub extern "C" fn lurgabel_layout3_reset(s: &mut Registers, pages: u32) -> u32
+pub extern "C" fn lurgabel_layout4_reset(s: &mut Registers, pages: u32) -> u32
     ensures { λ r. ⌜ record { told = r; registers = now (s .exit) } ≡ resetIn (now (s .entry)) pages ⌝ }
 {
     lifecycle::reset(s, pages)
 }
 
 #[no_mangle]
-pub extern "C" fn lurgabel_layout3_set_inputs(s: &mut Registers, provision: u32, locked: u32) -> u32
+pub extern "C" fn lurgabel_layout4_set_inputs(s: &mut Registers, provision: u32, locked: u32) -> u32
     ensures { λ r. ⌜ record { told = r; registers = now (s .exit) } ≡ setInputsIn (now (s .entry)) (inputsOf provision locked) ⌝ }
 {
     settings::set_inputs(s, calls::inputs(provision, locked))
 }
 
 #[no_mangle]
-pub extern "C" fn lurgabel_layout3_set_region(
+pub extern "C" fn lurgabel_layout4_set_region(
     s: &mut Registers,
     number: u32,
     region: AskedRegion,
@@ -47,14 +49,14 @@ pub extern "C" fn lurgabel_layout3_set_region(
 }
 
 #[no_mangle]
-pub extern "C" fn lurgabel_layout3_set_default_rights(s: &mut Registers, rights: u32) -> u32
+pub extern "C" fn lurgabel_layout4_set_default_rights(s: &mut Registers, rights: u32) -> u32
     ensures { λ r. ⌜ record { told = r; registers = now (s .exit) } ≡ setDefaultIn (now (s .entry)) (byteOf rights) ⌝ }
 {
     settings::set_default(s, calls::byte(rights))
 }
 
 #[no_mangle]
-pub extern "C" fn lurgabel_layout3_set_info_page(
+pub extern "C" fn lurgabel_layout4_set_info_page(
     s: &mut Registers,
     bank: u32,
     info: u32,
@@ -67,14 +69,14 @@ pub extern "C" fn lurgabel_layout3_set_info_page(
 }
 
 #[no_mangle]
-pub extern "C" fn lurgabel_layout3_set_bank_erase(s: &mut Registers, bank: u32, on: u32) -> u32
+pub extern "C" fn lurgabel_layout4_set_bank_erase(s: &mut Registers, bank: u32, on: u32) -> u32
     ensures { λ r. ⌜ record { told = r; registers = now (s .exit) } ≡ setEraseIn (now (s .entry)) bank (isOn on) ⌝ }
 {
     settings::set_erase(s, bank, calls::flag(on))
 }
 
 #[no_mangle]
-pub extern "C" fn lurgabel_layout3_clear_errors(s: &mut Registers) -> u32
+pub extern "C" fn lurgabel_layout4_clear_errors(s: &mut Registers) -> u32
     ensures { λ r. ⌜ record { told = r; registers = now (s .exit) } ≡ clearIn (now (s .entry)) ⌝ }
 {
     settings::clear(s)
@@ -83,14 +85,14 @@ pub extern "C" fn lurgabel_layout3_clear_errors(s: &mut Registers) -> u32
 // ---- initialise and RMA
 
 #[no_mangle]
-pub extern "C" fn lurgabel_layout3_initialise(s: &mut Registers, image: &[u32]) -> ToldSeeds
+pub extern "C" fn lurgabel_layout4_initialise(s: &mut Registers, image: &[u32]) -> ToldSeeds
     ensures { λ r. ⌜ record { told = r; registers = now (s .exit) } ≡ initialiseIn (now (s .entry)) (flash (now (image .entry))) ⌝ }
 {
     lifecycle::initialise(s, image)
 }
 
 #[no_mangle]
-pub extern "C" fn lurgabel_layout3_rma(s: &mut Registers, image: &mut [u32]) -> u32
+pub extern "C" fn lurgabel_layout4_rma(s: &mut Registers, image: &mut [u32]) -> u32
     ensures { λ r. ⌜ record { told = r; registers = now (s .exit); flash = flash (now (image .exit)) } ≡ rmaIn (now (s .entry)) (flash (now (image .entry))) ⌝ }
 {
     lifecycle::rma(s, image)
@@ -99,28 +101,28 @@ pub extern "C" fn lurgabel_layout3_rma(s: &mut Registers, image: &mut [u32]) -> 
 // ---- operations by steps
 
 #[no_mangle]
-pub extern "C" fn lurgabel_layout3_start(s: &mut Registers, operation: AskedOperation) -> u32
+pub extern "C" fn lurgabel_layout4_start(s: &mut Registers, operation: AskedOperation) -> ToldAnswer
     ensures { λ r. ⌜ record { told = r; registers = now (s .exit) } ≡ startIn (now (s .entry)) (operationOf operation) ⌝ }
 {
     operations::start(s, calls::operation(operation))
 }
 
 #[no_mangle]
-pub extern "C" fn lurgabel_layout3_step(s: &mut Registers, image: &mut [u32]) -> ToldStep
+pub extern "C" fn lurgabel_layout4_step(s: &mut Registers, image: &mut [u32]) -> ToldStep
     ensures { λ r. ⌜ record { told = r; registers = now (s .exit); flash = flash (now (image .exit)) } ≡ stepIn (now (s .entry)) (flash (now (image .entry))) ⌝ }
 {
     steps::step(s, image)
 }
 
 #[no_mangle]
-pub extern "C" fn lurgabel_layout3_push(s: &mut Registers, word: u32) -> u32
+pub extern "C" fn lurgabel_layout4_push(s: &mut Registers, word: u32) -> u32
     ensures { λ r. ⌜ record { told = r; registers = now (s .exit) } ≡ pushIn (now (s .entry)) word ⌝ }
 {
     queueing::push(s, word)
 }
 
 #[no_mangle]
-pub extern "C" fn lurgabel_layout3_pop(s: &mut Registers) -> ToldWord
+pub extern "C" fn lurgabel_layout4_pop(s: &mut Registers) -> ToldWord
     ensures { λ r. ⌜ record { told = r; registers = now (s .exit) } ≡ popIn (now (s .entry)) ⌝ }
 {
     queueing::pop(s)
@@ -129,7 +131,7 @@ pub extern "C" fn lurgabel_layout3_pop(s: &mut Registers) -> ToldWord
 // ---- whole operations
 
 #[no_mangle]
-pub extern "C" fn lurgabel_layout3_run(
+pub extern "C" fn lurgabel_layout4_run(
     s: &mut Registers,
     image: &mut [u32],
     operation: AskedOperation,
@@ -143,14 +145,18 @@ pub extern "C" fn lurgabel_layout3_run(
 // ---- the host
 
 #[no_mangle]
-pub extern "C" fn lurgabel_layout3_host_read(s: &Registers, image: &[u32], address: u32) -> ToldWord
+pub extern "C" fn lurgabel_layout4_host_read(
+    s: &Registers,
+    image: &[u32],
+    address: u32,
+) -> ToldHostWord
     ensures { λ r. ⌜ r ≡ hostReadIn (now (s .entry)) (flash (now (image .entry))) (record { 0 = address }) ⌝ }
 {
     host::host_read(s, image, ByteAddress(address))
 }
 
 #[no_mangle]
-pub extern "C" fn lurgabel_layout3_view(s: &Registers, image: &[u32], page: u32) -> ToldStart
+pub extern "C" fn lurgabel_layout4_view(s: &Registers, image: &[u32], page: u32) -> ToldStart
     ensures { λ r. ⌜ r ≡ viewIn (now (s .entry)) (flash (now (image .entry))) (record { 0 = page }) ⌝ }
 {
     host::view_start(s, image, Page(page))
@@ -159,7 +165,7 @@ pub extern "C" fn lurgabel_layout3_view(s: &Registers, image: &[u32], page: u32)
 // ---- turns of host and step
 
 #[no_mangle]
-pub extern "C" fn lurgabel_layout3_round(
+pub extern "C" fn lurgabel_layout4_round(
     s: &mut Registers,
     image: &mut [u32],
     host: u32,

@@ -9,7 +9,8 @@ use Rattle.model.specs.Words.{allOnes, changedBits, differIn}
 use Rattle.model.specs.Places.{totalWords, placeOf}
 use Rattle.model.specs.Queue.{held, queueOf, pushed}
 use Rattle.model.specs.State.{flash, flashFits, resetController, withPhysical}
-use Rattle.model.specs.Rights.{dataRights, rightsAt, leading, allowedWords, denied, readableWords}
+use Rattle.model.specs.Rights.{dataRuling, rulingAt, leading, allowedWords, denied, readableWords}
+use Rattle.model.specs.Refusals.{noDecider}
 use Rattle.model.specs.Checks.{malformed, outOfRange, crossesWindow, operationAnswer}
 use Rattle.model.specs.Valid.{settingsFit, workFits, runningFits, physicalFits, valid, validWith}
 use Rattle.model.specs.Errors.{recorded, clear}
@@ -57,10 +58,10 @@ high = 10240
 
 -- The step waits, and the host has its word; a word moves, so many of its bits rise, and the host waits.
 abbrev waits : Reply
-waits = withTurns (toldStep 0 Stalled 0) Waiting (record { turn = Served; answer = Accepted; word = 5 })
+waits = withTurns (toldStep 0 noDecider Stalled 0) Waiting (record { turn = Served; answer = Accepted; word = 5 })
 
 abbrev goes : Movement → ℕ → Reply
-goes m bits = withTurns (toldStep 0 m bits) Served (record { turn = Waiting; answer = Accepted; word = 0 })
+goes m bits = withTurns (toldStep 0 noDecider m bits) Served (record { turn = Waiting; answer = Accepted; word = 0 })
 
 -- Five rounds, with a clear among them.
 abbrev five : List Call
@@ -91,7 +92,7 @@ pub record Met : Type 0 where
   pub then-again : replies (worn (started across)) (both low ∷ both high ∷ []) ≡ goes Moved 0 ∷ goes Finished 0 ∷ []
 
 pub met : Met
-unfolding imagePage wordAt changedBits differIn totalWords placeOf held queueOf pushed leading dataRights rightsAt allowedWords denied readableWords malformed outOfRange crossesWindow operationAnswer settingsFit workFits runningFits physicalFits valid flashFits validWith recorded clear configured setDefault initialiseAnswer initialise startAnswer start stalls delivered countedBits advance stepProgress step hostAnswer hostRead wouldMove nextBank hostBank competes round perform
+unfolding imagePage wordAt changedBits differIn totalWords placeOf held queueOf pushed leading dataRuling rulingAt allowedWords denied readableWords malformed outOfRange crossesWindow operationAnswer settingsFit workFits runningFits physicalFits valid flashFits validWith recorded clear configured setDefault initialiseAnswer initialise startAnswer start stalls delivered countedBits advance stepProgress step hostAnswer hostRead wouldMove nextBank hostBank competes round perform
 met = record {
   shaped = record { regions = refl; info = refl; erase = refl; reads = refl; programs = refl; lost = refl };
   could = refl;

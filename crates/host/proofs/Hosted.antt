@@ -9,19 +9,19 @@ use lib.ListN.{length, getD}
 use borrow.Author.Tests.{leb-false}
 use Rattle.model.specs.Geometry.{dataPages, pageOf, imagePage, firstWord, wordAt}
 use Rattle.model.specs.State.{Flash}
-use Rattle.model.specs.Refusals.{accepts, numberOf, check, orElse, phaseAnswer, readyAnswer}
+use Rattle.model.specs.Refusals.{accepts, check, orElse, phaseAnswer, readyAnswer}
 use Rattle.model.specs.Checks.{unaligned, pastData}
 use Rattle.model.specs.Valid.{validWith}
 use Rattle.model.specs.Steps.{delivered}
-use Rattle.model.specs.Host.{unreadable, hostAnswer, hostRead, viewAnswer, view}
+use Rattle.model.specs.Host.{readAnswer, hostAnswer, hostRead, viewAnswer, view}
 use Rattle.model.specs.declared.Page.{Page}
 use Rattle.model.specs.declared.ByteAddress.{ByteAddress}
 use Rattle.model.specs.declared.Controller.{Controller}
 use Rattle.model.specs.declared.Answer.{Answer}
-use Rattle.model.specs.declared.Answer.the-variants.{Malformed, OutOfRange, Denied}
+use Rattle.model.specs.declared.Answer.the-variants.{Malformed, OutOfRange}
 use Rattle.registers.specs.Layout.{pagesAt}
 use Rattle.registers.specs.Registers.{standsFor, decode}
-use Rattle.calls.specs.Calls.{hostReadIn, viewIn}
+use Rattle.calls.specs.Calls.{toldHostWord, toldStart, hostReadIn, viewIn}
 use Rattle.model.proofs.Bool.{by-test}
 use Rattle.model.proofs.Geometry.{data-inside, word-at-inside}
 use Rattle.model.proofs.Moving.{with-valid}
@@ -55,10 +55,10 @@ module _ (s : List ℕ) (f : Flash) where
     hostRest c =
         orElse (check (unaligned a) Malformed)
         (orElse (check (pastData (c .setup .pages) a) OutOfRange)
-        (check (unreadable (c .setup) (pageOf a)) Denied))
+        (readAnswer (c .setup) (pageOf a)))
 
     pub host-answer-same : orElse (readyAnswer (validWith (decode s) f) (decode s .phase))
-        (orElse (check (unaligned a) Malformed) (orElse (check (pastData (getD s pagesAt 0) a) OutOfRange) (check (unreadable (standsFor s .setup) (pageOf a)) Denied)))
+        (orElse (check (unaligned a) Malformed) (orElse (check (pastData (getD s pagesAt 0) a) OutOfRange) (readAnswer (standsFor s .setup) (pageOf a))))
         ≡ hostAnswer (decode s) f a
     unfolding hostAnswer standsFor
     host-answer-same = rest-same hostRest
@@ -78,11 +78,11 @@ module _ (s : List ℕ) (f : Flash) where
           let below : a .0 < 2 * decode s .setup .pages * 1024 = leb-false _ _ (check-passed _ OutOfRange refl range) in
           rw host-pages (fits .0, omega (arith, word-at-inside (decode s .setup .pages) false 0 a (data-inside (decode s .setup .pages) 0 (pageOf a) (omega arith))))
 
-      pub read-accepted : record { answer = numberOf (hostAnswer (decode s) f a); word = getD (f .words) (wordAt (getD s pagesAt 0) false 0 a .0) 0 } ≡ hostReadIn s f a
+      pub read-accepted : toldHostWord (hostAnswer (decode s) f a) (getD (f .words) (wordAt (getD s pagesAt 0) false 0 a .0) 0) ≡ hostReadIn s f a
       unfolding hostReadIn hostRead delivered
       read-accepted = rw (h, host-pages)
 
-    pub read-refused : accepts (hostAnswer (decode s) f a) ≡ false → record { answer = numberOf (hostAnswer (decode s) f a); word = 0 } ≡ hostReadIn s f a
+    pub read-refused : accepts (hostAnswer (decode s) f a) ≡ false → toldHostWord (hostAnswer (decode s) f a) 0 ≡ hostReadIn s f a
     unfolding hostReadIn hostRead
     read-refused h = rw h
 
@@ -90,10 +90,10 @@ module _ (s : List ℕ) (f : Flash) where
 
   module _ (p : Page) where
     abbrev viewRest : Controller → Answer
-    viewRest c = orElse (check (leb (dataPages (c .setup .pages)) (p .0)) OutOfRange) (check (unreadable (c .setup) p) Denied)
+    viewRest c = orElse (check (leb (dataPages (c .setup .pages)) (p .0)) OutOfRange) (readAnswer (c .setup) p)
 
     pub view-answer-same : orElse (readyAnswer (validWith (decode s) f) (decode s .phase))
-        (orElse (check (leb (dataPages (getD s pagesAt 0)) (p .0)) OutOfRange) (check (unreadable (standsFor s .setup) p) Denied))
+        (orElse (check (leb (dataPages (getD s pagesAt 0)) (p .0)) OutOfRange) (readAnswer (standsFor s .setup) p))
         ≡ viewAnswer (decode s) f p
     unfolding viewAnswer standsFor
     view-answer-same = rest-same viewRest
@@ -113,10 +113,10 @@ module _ (s : List ℕ) (f : Flash) where
           let below : p .0 < 2 * decode s .setup .pages = leb-false _ _ (check-passed _ OutOfRange refl range) in
           rw view-pages (fits .0, omega arith, omega (arith, data-inside (decode s .setup .pages) 0 p below))
 
-      pub view-accepted : record { answer = numberOf (viewAnswer (decode s) f p); start = firstWord (imagePage (getD s pagesAt 0) false 0 p) .0 } ≡ viewIn s f p
+      pub view-accepted : toldStart (viewAnswer (decode s) f p) (firstWord (imagePage (getD s pagesAt 0) false 0 p) .0) ≡ viewIn s f p
       unfolding viewIn view
       view-accepted = rw (h, view-pages)
 
-    pub view-refused : accepts (viewAnswer (decode s) f p) ≡ false → record { answer = numberOf (viewAnswer (decode s) f p); start = 0 } ≡ viewIn s f p
+    pub view-refused : accepts (viewAnswer (decode s) f p) ≡ false → toldStart (viewAnswer (decode s) f p) 0 ≡ viewIn s f p
     unfolding viewIn view
     view-refused h = rw h

@@ -6,24 +6,25 @@ ghost use lib.ListN.{getD};
 ghost use denote.Ref.{ptr};
 ghost use Rattle.model.specs.State.{flash};
 ghost use Rattle.model.specs.Geometry.{imagePage, firstWord};
-ghost use Rattle.model.specs.Host.{unreadable, hostAnswer, viewAnswer, view};
+ghost use Rattle.model.specs.Host.{readAnswer, hostAnswer, viewAnswer, view};
 ghost use Rattle.registers.specs.Layout.{pagesAt};
 ghost use Rattle.registers.specs.Registers.{standsFor, decode};
-ghost use Rattle.calls.specs.Calls.{hostReadIn, viewIn};
+ghost use Rattle.calls.specs.Calls.{toldHostWord, toldStart, hostReadIn, viewIn};
+use calls::ToldHostWord;
 use calls::ToldStart;
-use calls::ToldWord;
 use model::Answer;
 use model::ByteAddress;
 use model::Page;
 use model::WIDE_PAGE_WORDS;
 use registers::Registers;
 
-// The read right (1) of a data page decides.
-fn unreadable(s: &Registers, p: Page) -> bool
-    ensures { λ r. ⌜ r ≡ unreadable (standsFor (now (s .entry)) .setup) p ⌝ }
+// Check 9: the read right (1) of a data page decides.
+fn read_answer(s: &Registers, p: Page) -> Answer
+    ensures { λ r. ⌜ r ≡ readAnswer (standsFor (now (s .entry)) .setup) p ⌝ }
 {
-    let rights = lookups::rights_at(s, false, 0, p);
-    !rights::grants(rights, 1)
+    let ruling = lookups::ruling_at(s, false, 0, p);
+    let by = ruling.decider;
+    refusals::check(!rights::grants(ruling.rights, 1), Answer::Denied(by))
 }
 
 // Checks 1, 2, 3, 5, 7 and 9, in this order.
@@ -36,29 +37,35 @@ fn host_answer(s: &Registers, image: &[u32], at: ByteAddress) -> Answer
         checks::past_data(registers::pages(s), at),
         Answer::OutOfRange,
     );
-    let right = refusals::check(unreadable(s, geometry::page_of(at)), Answer::Denied);
+    let right = read_answer(s, geometry::page_of(at));
     refusals::or_else(
         ready,
         refusals::or_else(form, refusals::or_else(range, right)),
     )
 }
 
+fn told_word(answer: Answer, word: u32) -> ToldHostWord
+    ensures { λ r. ⌜ r ≡ toldHostWord answer word ⌝ }
+{
+    let told = calls::told(answer);
+    ToldHostWord {
+        answer: told.answer,
+        decider: told.decider,
+        word,
+    }
+}
+
 // The word that is stored at an address of the data pages.
-pub fn host_read(s: &Registers, image: &[u32], at: ByteAddress) -> ToldWord
+pub fn host_read(s: &Registers, image: &[u32], at: ByteAddress) -> ToldHostWord
     ensures { λ r. ⌜ r ≡ hostReadIn (now (s .entry)) (flash (now (image .entry))) at ⌝ }
 {
     let answer = host_answer(s, image, at);
-    let told = calls::number(answer);
     if !refusals::accepts(answer) {
-        return ToldWord {
-            answer: told,
-            word: 0,
-        };
+        return told_word(answer, 0);
     }
     let place = geometry::word_at(registers::pages(s), false, 0, at);
     let i = place.0 as usize;
-    let word = image[i];
-    ToldWord { answer: told, word }
+    told_word(answer, image[i])
 }
 
 // Checks 1, 2, 3, 7 and 9, in this order.
@@ -68,7 +75,7 @@ fn view_answer(s: &Registers, image: &[u32], p: Page) -> Answer
     let ready = validity::ready_with(s, image);
     let past = 2 * (registers::pages(s) as usize) <= p.0 as usize;
     let range = refusals::check(past, Answer::OutOfRange);
-    let right = refusals::check(unreadable(s, p), Answer::Denied);
+    let right = read_answer(s, p);
     refusals::or_else(ready, refusals::or_else(range, right))
 }
 
@@ -82,35 +89,48 @@ fn page_start(s: &Registers, p: Page) -> u32
     first.0
 }
 
+fn told_start(answer: Answer, start: u32) -> ToldStart
+    ensures { λ r. ⌜ r ≡ toldStart answer start ⌝ }
+{
+    let told = calls::told(answer);
+    ToldStart {
+        answer: told.answer,
+        decider: told.decider,
+        start,
+    }
+}
+
 // Where a view starts: 0 where it is refused.
 pub fn view_start(s: &Registers, image: &[u32], p: Page) -> ToldStart
     ensures { λ r. ⌜ r ≡ viewIn (now (s .entry)) (flash (now (image .entry))) p ⌝ }
 {
     let answer = view_answer(s, image, p);
-    let told = calls::number(answer);
     if !refusals::accepts(answer) {
-        return ToldStart {
-            answer: told,
-            start: 0,
-        };
+        return told_start(answer, 0);
     }
-    let start = page_start(s, p);
-    ToldStart {
-        answer: told,
-        start,
-    }
+    told_start(answer, page_start(s, p))
 }
 
-// A data page's own words inside the lent image, or no words. `refusal` is set to the answer's number.
-pub fn view<'a>(s: &Registers, image: &'a [u32], p: Page, refusal: &mut u8) -> &'a [u32]
+// A data page's own words inside the lent image, or no words. `refusal` is set to the answer's number, and `decider` to what it
+// reports.
+pub fn view<'a>(
+    s: &Registers,
+    image: &'a [u32],
+    p: Page,
+    refusal: &mut u8,
+    decider: &mut u8,
+) -> &'a [u32]
     ensures words { λ r. ⌜ now r ≡ view (decode (now (s .entry))) (flash (now (image .entry))) p .words ⌝ }
     ensures place { λ r. ⌜ ptr r ≡ (ptr (image .entry) .0, view (decode (now (s .entry))) (flash (now (image .entry))) p .start .0 * 4 + ptr (image .entry) .1) ⌝ }
     ensures number { λ _. ⌜ now (refusal .exit) ≡ view (decode (now (s .entry))) (flash (now (image .entry))) p .number ⌝ }
+    ensures decider { λ _. ⌜ now (decider .exit) ≡ view (decode (now (s .entry))) (flash (now (image .entry))) p .decider ⌝ }
 {
     let answer = view_answer(s, image, p);
     let accepted = refusals::accepts(answer);
     let number = refusals::number_of(answer);
+    let by = refusals::reported(answer);
     *refusal = number;
+    *decider = by;
     if accepted {
         let start = page_start(s, p) as usize;
         let end = start + WIDE_PAGE_WORDS;

@@ -1,37 +1,50 @@
 // Who may touch a page, and checks 5, 7, 8 and 9, on the state where it lies.
 ghost use mathlib.Core.Path.{_≡_};
-ghost use mathlib.Core.Bool.{false, not};
+ghost use mathlib.Core.Bool.{true, false, not};
 ghost use Prim.Native.Nat.{_+_, _<_, _≤_, _%_};
 ghost use lib.ListN.{getD};
-ghost use Rattle.model.specs.Rights.{dataRights, infoRights, rightsAt, pageGrants, leading, allowedWords, denied};
+ghost use Rattle.model.specs.Rights.{dataRuling, infoRuling, rulingAt, pageGrants, leading, allowedWords, denied, deciderOf};
+ghost use Rattle.model.specs.Kinds.{isBankErase};
 ghost use Rattle.model.specs.Places.{spanWords};
 ghost use mathlib.Core.Bool.{cond};
-ghost use Rattle.model.specs.Refusals.{isDenied};
+ghost use Rattle.model.specs.Refusals.{isDenied, check};
 ghost use Rattle.model.specs.Checks.{malformed, operationAnswer};
 ghost use Rattle.model.specs.State.{pageOff};
 ghost use Rattle.registers.specs.Layout.{defaultAt};
 ghost use Rattle.registers.specs.Registers.{regionsOf, infoOf, settingsOf, inputsAt, standsFor};
 use model::Answer;
+use model::Decider;
 use model::INFO_SETTINGS;
 use model::Operation;
 use model::PAGE_BYTES;
 use model::PAGE_WORDS;
 use model::Page;
 use model::PageSetting;
+use model::Ruling;
+use model::WIDE_PAGE_BYTES;
 use registers::Registers;
 
-fn data_rights(s: &Registers, p: Page) -> u8
-    ensures { λ r. ⌜ r ≡ dataRights (regionsOf (now (s .entry))) (getD (now (s .entry)) defaultAt 0 % 256) p ⌝ }
+// The lowest-numbered region that is on and holds the page decides, alone; if there is none, the default rights.
+fn data_ruling(s: &Registers, p: Page) -> Ruling
+    ensures { λ r. ⌜ r ≡ dataRuling 0 (regionsOf (now (s .entry))) (getD (now (s .entry)) defaultAt 0 % 256) p ⌝ }
 {
     let other = registers::default_rights(s);
     let mut i: usize = 0;
     loop {
         if i == 8 {
-            break other;
+            let by_default = Ruling {
+                rights: other,
+                decider: Decider::Default,
+            };
+            break by_default;
         }
         let g = registers::region(s, i);
         if rights::decides(p, g) {
-            break g.rights;
+            let by_region = Ruling {
+                rights: g.rights,
+                decider: Decider::Region(i as u8),
+            };
+            break by_region;
         }
         i += 1;
     }
@@ -49,35 +62,43 @@ fn page_setting(s: &Registers, page: usize) -> PageSetting
     }
 }
 
-fn info_rights(s: &Registers, page: usize) -> u8
-    ensures { λ r. ⌜ r ≡ infoRights (inputsAt (now (s .entry))) (settingsOf (now (s .entry))) page ⌝ }
+// A closed seed page is denied by the seed lock, whatever its setting says.
+fn info_ruling(s: &Registers, page: usize) -> Ruling
+    ensures { λ r. ⌜ r ≡ infoRuling (inputsAt (now (s .entry))) (settingsOf (now (s .entry))) page ⌝ }
 {
     let inputs = registers::inputs(s);
     if rights::seed_closed(inputs, page) {
-        return 0;
+        return Ruling {
+            rights: 0,
+            decider: Decider::SeedLock,
+        };
     }
-    rights::page_rights(page_setting(s, page))
+    let rights = rights::page_rights(page_setting(s, page));
+    Ruling {
+        rights,
+        decider: Decider::PageSetting,
+    }
 }
 
-// The rights of a page of either partition.
-pub fn rights_at(s: &Registers, information: bool, t: u8, p: Page) -> u8
-    ensures { λ r. ⌜ r ≡ rightsAt (standsFor (now (s .entry)) .setup) information t p ⌝ }
+// The rights of a page of either partition, and who decided.
+pub fn ruling_at(s: &Registers, information: bool, t: u8, p: Page) -> Ruling
+    ensures { λ r. ⌜ r ≡ rulingAt (standsFor (now (s .entry)) .setup) information t p ⌝ }
 {
     if information {
         let d = registers::pages(s);
         let bank = geometry::bank_of(d, p);
         let page = geometry::page_in_bank(d, p);
-        return info_rights(s, geometry::info_index(bank, t, page));
+        return info_ruling(s, geometry::info_index(bank, t, page));
     }
-    data_rights(s, p)
+    data_ruling(s, p)
 }
 
 fn page_grants(s: &Registers, o: Operation, p: Page) -> bool
     ensures { λ r. ⌜ r ≡ pageGrants (standsFor (now (s .entry)) .setup) o p ⌝ }
 {
     let information = places::is_information(o);
-    let rights = rights_at(s, information, o.info, p);
-    rights::grants(rights, places::right_needed(o))
+    let ruling = ruling_at(s, information, o.info, p);
+    rights::grants(ruling.rights, places::right_needed(o))
 }
 
 // How many of the `count` pages from `from` on have the right before the first that has not.
@@ -122,16 +143,44 @@ fn bank_closed(s: &Registers, bank: u32) -> bool
     !registers::permission(s, bank as usize)
 }
 
-fn denied(s: &Registers, o: Operation) -> bool
+// Check 9 of a bank erase: its bank's permission decides.
+fn bank_answer(s: &Registers, o: Operation) -> Answer
+    requires { ⌜ isBankErase o ≡ true ⌝ }
+    ensures { λ r. ⌜ r ≡ check (denied (standsFor (now (s .entry)) .setup) o) (Answer.Denied (deciderOf (standsFor (now (s .entry)) .setup) o)) ⌝ }
+{
+    let address = o.address;
+    let d = registers::pages(s);
+    let bank = geometry::bank_of(d, geometry::page_of(address));
+    let by = Decider::BankPermission;
+    refusals::check(bank_closed(s, bank), Answer::Denied(by))
+}
+
+// Check 9 of another span: who decides its first denied page is named.
+fn span_answer(s: &Registers, o: Operation) -> Answer
+    requires { ⌜ (isBankErase o ≡ false) × (spanWords o < 1048576) ⌝ }
+    ensures { λ r. ⌜ r ≡ check (denied (standsFor (now (s .entry)) .setup) o) (Answer.Denied (deciderOf (standsFor (now (s .entry)) .setup) o)) ⌝ }
+{
+    let words = places::span_words(o);
+    let allowed = allowed_words(s, o);
+    if allowed < words {
+        let page = places::span_address(o, allowed) / WIDE_PAGE_BYTES;
+        let information = places::is_information(o);
+        let ruling = ruling_at(s, information, o.info, Page(page as u32));
+        let by = ruling.decider;
+        return Answer::Denied(by);
+    }
+    Answer::Accepted
+}
+
+// Check 9.
+fn right_answer(s: &Registers, o: Operation) -> Answer
     requires { ⌜ malformed o ≡ false ⌝ }
-    ensures { λ r. ⌜ r ≡ denied (standsFor (now (s .entry)) .setup) o ⌝ }
+    ensures { λ r. ⌜ r ≡ check (denied (standsFor (now (s .entry)) .setup) o) (Answer.Denied (deciderOf (standsFor (now (s .entry)) .setup) o)) ⌝ }
 {
     if places::is_bank_erase(o) {
-        let address = o.address;
-        let d = registers::pages(s);
-        return bank_closed(s, geometry::bank_of(d, geometry::page_of(address)));
+        return bank_answer(s, o);
     }
-    allowed_words(s, o) < places::span_words(o)
+    span_answer(s, o)
 }
 
 // Checks 5, 7, 8 and 9. Only an operation that passes check 5 has a span to look at.
@@ -145,7 +194,7 @@ pub fn operation_answer(s: &Registers, o: Operation) -> Answer
     }
     let range = refusals::check(checks::out_of_range(d, o), Answer::OutOfRange);
     let window = refusals::check(checks::crosses_window(o), Answer::CrossesWindow);
-    let rights = refusals::check(denied(s, o), Answer::Denied);
+    let rights = right_answer(s, o);
     refusals::or_else(range, refusals::or_else(window, rights))
 }
 

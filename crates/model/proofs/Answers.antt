@@ -5,12 +5,13 @@ use mathlib.Core.Bool.{Bool, true, false, _||_, not, cond, true≢false}
 use lib.Dec.{eqb}
 use borrow.Author.Tests.{eqb-true, ne-eqb}
 use Rattle.model.specs.State.{isReady}
-use Rattle.model.specs.Rights.{denied}
+use Rattle.model.specs.Rights.{denied, deciderOf}
 use Rattle.model.specs.Refusals.{numberOf, accepts, isDenied, check, orElse, readyAnswer}
 use Rattle.model.specs.Checks.{malformed, outOfRange, crossesWindow, operationAnswer}
 use Rattle.model.specs.Errors.{isRecorded}
 use Rattle.model.specs.declared.Answer.{Answer}
 use Rattle.model.specs.declared.Answer.the-variants.{Accepted, Invalid, Disabled, Uninitialised, Busy, Malformed, OutOfRange, CrossesWindow, Denied}
+use Rattle.model.specs.declared.Decider.{Decider}
 use Rattle.model.specs.declared.Phase.{Phase}
 use Rattle.model.specs.declared.Phase.the-variants as phase
 use Rattle.model.specs.declared.Operation.{Operation}
@@ -69,77 +70,77 @@ unrecorded-undenied n u =
 -- ---- checks 5, 7, 8 and 9, as four tests
 
 -- The first of them that applies answers.
-abbrev firstOf : Bool → Bool → Bool → Bool → Answer
-firstOf m r w d =
-    orElse (check m Malformed) (orElse (check r OutOfRange) (orElse (check w CrossesWindow) (check d Denied)))
+abbrev firstOf : Decider → Bool → Bool → Bool → Bool → Answer
+firstOf by m r w d =
+    orElse (check m Malformed) (orElse (check r OutOfRange) (orElse (check w CrossesWindow) (check d (Denied by))))
 
 -- Each of them is recorded,
-first-recorded : (m r w d : Bool) → accepts (firstOf m r w d) ≡ false → isRecorded (numberOf (firstOf m r w d)) ≡ true
-first-recorded true r w d h = refl
-first-recorded false true w d h = refl
-first-recorded false false true d h = refl
-first-recorded false false false true h = refl
-first-recorded false false false false h = cc
+first-recorded : (by : Decider) (m r w d : Bool) → accepts (firstOf by m r w d) ≡ false → isRecorded (numberOf (firstOf by m r w d)) ≡ true
+first-recorded by true r w d h = refl
+first-recorded by false true w d h = refl
+first-recorded by false false true d h = refl
+first-recorded by false false false true h = refl
+first-recorded by false false false false h = cc
 
 -- and the answer is 9 only where check 9 applies.
-first-denied : (m r w d : Bool) → isDenied (firstOf m r w d) ≡ true → d ≡ true
-first-denied true r w d h = cc
-first-denied false true w d h = cc
-first-denied false false true d h = cc
-first-denied false false false true h = refl
-first-denied false false false false h = cc
+first-denied : (by : Decider) (m r w d : Bool) → isDenied (firstOf by m r w d) ≡ true → d ≡ true
+first-denied by true r w d h = cc
+first-denied by false true w d h = cc
+first-denied by false false true d h = cc
+first-denied by false false false true h = refl
+first-denied by false false false false h = cc
 
 -- Where they accept, checks 7 and 9 pass.
-first-passed : (m r w d : Bool) → accepts (firstOf m r w d) ≡ true → (r ≡ false) × (d ≡ false)
-first-passed true r w d h = (cc, cc)
-first-passed false true w d h = (cc, cc)
-first-passed false false true d h = (cc, cc)
-first-passed false false false true h = (cc, cc)
-first-passed false false false false h = (refl, refl)
+first-passed : (by : Decider) (m r w d : Bool) → accepts (firstOf by m r w d) ≡ true → (r ≡ false) × (d ≡ false)
+first-passed by true r w d h = (cc, cc)
+first-passed by false true w d h = (cc, cc)
+first-passed by false false true d h = (cc, cc)
+first-passed by false false false true h = (cc, cc)
+first-passed by false false false false h = (refl, refl)
 
 -- Where they accept or deny, checks 5 and 7 pass, and the answer is 9 if check 9 applies.
-first-two : (m r w d : Bool) → (accepts (firstOf m r w d) || isDenied (firstOf m r w d)) ≡ true
-    → (m ≡ false) × (r ≡ false) × (d ≡ isDenied (firstOf m r w d))
-first-two true r w d h = (cc, cc, cc)
-first-two false true w d h = (cc, cc, cc)
-first-two false false true d h = (cc, cc, cc)
-first-two false false false true h = (refl, refl, refl)
-first-two false false false false h = (refl, refl, refl)
+first-two : (by : Decider) (m r w d : Bool) → (accepts (firstOf by m r w d) || isDenied (firstOf by m r w d)) ≡ true
+    → (m ≡ false) × (r ≡ false) × (d ≡ isDenied (firstOf by m r w d))
+first-two by true r w d h = (cc, cc, cc)
+first-two by false true w d h = (cc, cc, cc)
+first-two by false false true d h = (cc, cc, cc)
+first-two by false false false true h = (refl, refl, refl)
+first-two by false false false false h = (refl, refl, refl)
 
 -- and the answer is nothing but acceptance or 9.
-first-named : (m r w d : Bool) → (accepts (firstOf m r w d) || isDenied (firstOf m r w d)) ≡ true
-    → firstOf m r w d ≡ cond (isDenied (firstOf m r w d)) Denied Accepted
-first-named true r w d h = cc
-first-named false true w d h = cc
-first-named false false true d h = cc
-first-named false false false true h = refl
-first-named false false false false h = refl
+first-named : (by : Decider) (m r w d : Bool) → (accepts (firstOf by m r w d) || isDenied (firstOf by m r w d)) ≡ true
+    → firstOf by m r w d ≡ cond (isDenied (firstOf by m r w d)) (Denied by) Accepted
+first-named by true r w d h = cc
+first-named by false true w d h = cc
+first-named by false false true d h = cc
+first-named by false false false true h = refl
+first-named by false false false false h = refl
 
 -- So of an operation:
 module _ (s : Setup) (o : Operation) where
   -- its checks come in this order;
-  in-order : operationAnswer s o ≡ firstOf (malformed o) (outOfRange (s .pages) o) (crossesWindow o) (denied s o)
+  in-order : operationAnswer s o ≡ firstOf (deciderOf s o) (malformed o) (outOfRange (s .pages) o) (crossesWindow o) (denied s o)
   unfolding operationAnswer
   in-order = refl
 
   -- refused, it is recorded;
   pub recorded-if-refused : accepts (operationAnswer s o) ≡ false → isRecorded (numberOf (operationAnswer s o)) ≡ true
-  recorded-if-refused = rw in-order (first-recorded (malformed o) (outOfRange (s .pages) o) (crossesWindow o) (denied s o))
+  recorded-if-refused = rw in-order (first-recorded (deciderOf s o) (malformed o) (outOfRange (s .pages) o) (crossesWindow o) (denied s o))
 
   -- told 9, it is denied;
   pub denied-if-told : isDenied (operationAnswer s o) ≡ true → denied s o ≡ true
-  denied-if-told = rw in-order (first-denied (malformed o) (outOfRange (s .pages) o) (crossesWindow o) (denied s o))
+  denied-if-told = rw in-order (first-denied (deciderOf s o) (malformed o) (outOfRange (s .pages) o) (crossesWindow o) (denied s o))
 
   -- accepted, it is in range and not denied;
   pub accepted-passes : accepts (operationAnswer s o) ≡ true → (outOfRange (s .pages) o ≡ false) × (denied s o ≡ false)
-  accepted-passes = rw in-order (first-passed (malformed o) (outOfRange (s .pages) o) (crossesWindow o) (denied s o))
+  accepted-passes = rw in-order (first-passed (deciderOf s o) (malformed o) (outOfRange (s .pages) o) (crossesWindow o) (denied s o))
 
   -- accepted or told 9, it is well formed and in range, and denied if told so,
   pub asked-in-range : (accepts (operationAnswer s o) || isDenied (operationAnswer s o)) ≡ true
       → (malformed o ≡ false) × (outOfRange (s .pages) o ≡ false) × (denied s o ≡ isDenied (operationAnswer s o))
-  asked-in-range = rw in-order (first-two (malformed o) (outOfRange (s .pages) o) (crossesWindow o) (denied s o))
+  asked-in-range = rw in-order (first-two (deciderOf s o) (malformed o) (outOfRange (s .pages) o) (crossesWindow o) (denied s o))
 
   -- and told just that.
   pub answer-named : (accepts (operationAnswer s o) || isDenied (operationAnswer s o)) ≡ true
-      → operationAnswer s o ≡ cond (isDenied (operationAnswer s o)) Denied Accepted
-  answer-named = rw in-order (first-named (malformed o) (outOfRange (s .pages) o) (crossesWindow o) (denied s o))
+      → operationAnswer s o ≡ cond (isDenied (operationAnswer s o)) (Denied (deciderOf s o)) Accepted
+  answer-named = rw in-order (first-named (deciderOf s o) (malformed o) (outOfRange (s .pages) o) (crossesWindow o) (denied s o))

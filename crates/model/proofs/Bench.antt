@@ -5,7 +5,7 @@ use Rattle.model.specs.Geometry.{imagePage, wordAt}
 use Rattle.model.specs.Words.{programmed, differIn, changedBits}
 use Rattle.model.specs.Places.{totalWords, placeOf}
 use Rattle.model.specs.Queue.{held, queueOf, pushed, oldest, popped}
-use Rattle.model.specs.Rights.{dataRights, seedClosed, infoRights, rightsAt, leading, allowedWords, denied, readableWords}
+use Rattle.model.specs.Rights.{dataRuling, seedClosed, infoRuling, rulingAt, leading, allowedWords, denied, readableWords}
 use Rattle.model.specs.Checks.{malformed, outOfRange, crossesWindow, operationAnswer}
 use Rattle.model.specs.Valid.{all, settingsFit, workFits, runningFits, physicalFits, valid, validWith}
 use Rattle.model.specs.Errors.{recorded}
@@ -16,5 +16,5 @@ use Rattle.model.specs.Steps.{startAnswer, start, pushAnswer, push, stal
 use Rattle.model.specs.Bench.{openPages, allRights, bench, twoRegions, seedsLocked, programOne, programTwo, cases, holds}
 
 pub starred : all holds cases ≡ true
-unfolding imagePage wordAt programmed differIn changedBits totalWords placeOf held queueOf pushed oldest popped dataRights seedClosed infoRights rightsAt leading allowedWords denied readableWords malformed outOfRange crossesWindow operationAnswer settingsFit workFits runningFits physicalFits valid flashFits validWith recorded setInputs configured setRegion setDefault setInfo setErase reset initialiseAnswer initialise startAnswer start pushAnswer push stalls delivered countedBits advance stepProgress step openPages allRights bench twoRegions seedsLocked programOne programTwo cases
+unfolding imagePage wordAt programmed differIn changedBits totalWords placeOf held queueOf pushed oldest popped dataRuling seedClosed infoRuling rulingAt leading allowedWords denied readableWords malformed outOfRange crossesWindow operationAnswer settingsFit workFits runningFits physicalFits valid flashFits validWith recorded setInputs configured setRegion setDefault setInfo setErase reset initialiseAnswer initialise startAnswer start pushAnswer push stalls delivered countedBits advance stepProgress step openPages allRights bench twoRegions seedsLocked programOne programTwo cases
 starred = refl

@@ -6,6 +6,7 @@ pub mod Words
 pub mod Places
 pub mod QueueLaws
 pub mod Rights
+pub mod Deciders
 pub mod Pages
 pub mod Checks
 pub mod Answers

@@ -9,7 +9,7 @@ use borrow.Author.Tests.{leb-true}
 use Rattle.model.specs.Geometry.{dataPages, pageOf}
 use Rattle.model.specs.Kinds.{usesCount}
 use Rattle.model.specs.State.{Flash, flashFits, isBusy}
-use Rattle.model.specs.Rights.{denied}
+use Rattle.model.specs.Rights.{denied, deciderOf}
 use Rattle.model.specs.Refusals.{accepts, check, readyAnswer}
 use Rattle.model.specs.Checks.{unaligned, malformed, pastData, outOfRange, crossesWindow, operationAnswer}
 use Rattle.model.specs.Valid.{valid, validWith, bothEmpty}
@@ -140,7 +140,7 @@ module _ (s : Setup) (o : Operation) where
   window-third h r w = rw (h, r, w)
 
   pub denied-last : malformed o ≡ false → outOfRange (s .pages) o ≡ false → crossesWindow o ≡ false → denied s o ≡ true
-      → operationAnswer s o ≡ Denied
+      → operationAnswer s o ≡ Denied (deciderOf s o)
   unfolding operationAnswer
   denied-last h r w d = rw (h, r, w, d)
 

@@ -10,7 +10,7 @@ use borrow.Author.Tests.{lt-ltb, le-ltb}
 use Rattle.model.specs.Geometry.{infoCount, infoFirst, bankPages, imagePageOf, pageOf, bankOf, pageInBank, imagePage, infoIndex, bankOfPage, numberInBank, isData, dataPageOf, infoIndexOf}
 use Rattle.model.specs.Kinds.{isBankErase, isInformation, rightNeeded}
 use Rattle.model.specs.Places.{spanWords, spanAddress, totalWords, placeOf}
-use Rattle.model.specs.Rights.{grants, denied, rightsAt, rightsOfPage}
+use Rattle.model.specs.Rights.{grants, denied, rulingAt, rulingOfPage}
 use Rattle.model.specs.Checks.{outOfRange}
 use Rattle.model.specs.declared.Page.{Page}
 use Rattle.model.specs.declared.Operation.{Operation}
@@ -54,15 +54,15 @@ info-page d t p h =
 
 -- ---- so both look-ups agree
 
-data-rights : (s : Setup) (t : ℕ) (p : Page) → p .0 < 2 * s .pages
-    → rightsOfPage s (imagePage (s .pages) false t p) ≡ rightsAt s false t p
-unfolding rightsAt rightsOfPage
-data-rights s t p h = let q = data-page (s .pages) t p h in rw (q .0, q .1)
+data-ruling : (s : Setup) (t : ℕ) (p : Page) → p .0 < 2 * s .pages
+    → rulingOfPage s (imagePage (s .pages) false t p) ≡ rulingAt s false t p
+unfolding rulingAt rulingOfPage
+data-ruling s t p h = let q = data-page (s .pages) t p h in rw (q .0, q .1)
 
-info-rights : (s : Setup) (t : ℕ) (p : Page) → pageInBank (s .pages) p < infoCount t
-    → rightsOfPage s (imagePage (s .pages) true t p) ≡ rightsAt s true t p
-unfolding rightsAt rightsOfPage
-info-rights s t p h = let q = info-page (s .pages) t p h in rw (q .0, q .1)
+info-ruling : (s : Setup) (t : ℕ) (p : Page) → pageInBank (s .pages) p < infoCount t
+    → rulingOfPage s (imagePage (s .pages) true t p) ≡ rulingAt s true t p
+unfolding rulingAt rulingOfPage
+info-ruling s t p h = let q = info-page (s .pages) t p h in rw (q .0, q .1)
 
 -- ---- the places of an operation that is not denied
 
@@ -81,15 +81,15 @@ bank-of-place d o k b h =
 module _ (s : Setup) (o : Operation) (k : ℕ) (passed : denied s o ≡ false) where
   -- The image page of each place of a span grants the right,
   pub place-granted : isBankErase o ≡ false → 10 ≤ s .pages → outOfRange (s .pages) o ≡ false → k < totalWords (s .pages) o
-      → grants (rightsOfPage s (imagePageOf (placeOf (s .pages) o k))) (rightNeeded o) ≡ true
+      → grants (rulingOfPage s (imagePageOf (placeOf (s .pages) o k)) .rights) (rightNeeded o) ≡ true
   unfolding totalWords
   place-granted b fit ranged h =
       let l : k < spanWords o = rw b at h in
       let p : Page = pageOf (spanAddress o k) in
-      let same : rightsOfPage s (imagePage (s .pages) (isInformation o) (o .info) p) ≡ rightsAt s (isInformation o) (o .info) p =
+      let same : rulingOfPage s (imagePage (s .pages) (isInformation o) (o .info) p) ≡ rulingAt s (isInformation o) (o .info) p =
       by-test (isInformation o)
-      (λ i. rw i (info-rights s (o .info) p (span-info (s .pages) o fit ranged k b i l .1)))
-      (λ i. rw i (data-rights s (o .info) p (span-data (s .pages) o fit ranged k b i l))) in
+      (λ i. rw i (info-ruling s (o .info) p (span-info (s .pages) o fit ranged k b i l .1)))
+      (λ i. rw i (data-ruling s (o .info) p (span-data (s .pages) o fit ranged k b i l))) in
       rw (place-page (s .pages) o k b, same) (span-granted s o k b passed l)
 
   -- and the bank of each place of a bank erase its permission.

@@ -14,7 +14,7 @@ use borrow.Author.Tests.{ltb-true, ltb-false, not-false}
 use Rattle.model.specs.Geometry.{pageOf, bankOf, wordInPage, infoIndex, isolatedPage}
 use Rattle.model.specs.Kinds.{isBankErase}
 use Rattle.model.specs.Places.{spanStart, spanWords, spanAddress}
-use Rattle.model.specs.Rights.{decides, dataRights, pageRights, seedClosed, infoRights, leading, spanPages, pageGrants, allowedWords, denied}
+use Rattle.model.specs.Rights.{decides, dataRuling, pageRights, seedClosed, infoRuling, leading, spanPages, pageGrants, allowedWords, denied, firstDenied}
 use Rattle.model.specs.State.{pageOff}
 use Rattle.model.specs.declared.ByteAddress.{ByteAddress}
 use Rattle.model.specs.declared.Operation.{Operation}
@@ -23,32 +23,33 @@ use Rattle.model.specs.declared.Settings.{Settings}
 use Rattle.model.specs.declared.Setup.{Setup}
 use Rattle.model.specs.declared.Page.{Page}
 use Rattle.model.specs.declared.Region.{Region}
+use Rattle.model.specs.declared.Decider.the-variants as by
 use Rattle.model.proofs.Bool.{by-test}
 
 -- ---- the regions, lowest first
 
--- No region below i decides.
+-- No region below i decides: the look-up from region i on is the whole one.
 pub record Undecided (l : List Region) (other : ℕ) (p : Page) (i : ℕ) : Type 0 where
-  pub same : dataRights (drop i l) other p ≡ dataRights l other p
+  pub same : dataRuling i (drop i l) other p ≡ dataRuling 0 l other p
 
 pub undecided-none : {l : List Region} {other : ℕ} {p : Page} → Undecided l other p 0
 undecided-none = record { same = refl }
 
 pub undecided-more : {l : List Region} {other : ℕ} {p : Page} {i : ℕ} (g : Region) → i < length l → Undecided l other p i
     → decides p (getD l i g) ≡ false → Undecided l other p (i + 1)
-unfolding dataRights
-undecided-more {l = l} {i = i} g h u e = record { same = rw add-one (simp e at (rw (drop-cons l i g h) at (u .same))) }
+unfolding dataRuling
+undecided-more {l = l} {i = i} g h u e = record { same = rw add-one (simp (e, add-one) at (rw (drop-cons l i g h) at (u .same))) }
 
 -- Region i decides, alone.
 pub decided : {l : List Region} {other : ℕ} {p : Page} {i : ℕ} (g : Region) → i < length l → Undecided l other p i
-    → decides p (getD l i g) ≡ true → getD l i g .rights ≡ dataRights l other p
-unfolding dataRights
+    → decides p (getD l i g) ≡ true → record { rights = getD l i g .rights; decider = by.Region i } ≡ dataRuling 0 l other p
+unfolding dataRuling
 decided {l = l} {i = i} g h u e = simp e at (rw (drop-cons l i g h) at (u .same))
 
 -- No region decides.
 pub undecided-all : {l : List Region} {other : ℕ} {p : Page} {i : ℕ} → length l ≤ i → Undecided l other p i
-    → other ≡ dataRights l other p
-unfolding dataRights
+    → record { rights = other; decider = by.Default } ≡ dataRuling 0 l other p
+unfolding dataRuling
 undecided-all {l = l} h u = rw (drop-of-length-le l h) at (u .same)
 
 -- ---- the pages that pass a test before the first that fails
@@ -156,8 +157,7 @@ least-below w a h =
     (λ t. let same : min w a ≡ w = min-eq-left (ltb-false _ _ t) in absurd (omega arith))
 
 -- The word after these, if it is one of the span's, lies on a page without the right.
-pub first-denied : (s : Setup) (o : Operation) → allowedWords s o < spanWords o
-    → pageGrants s o (pageOf (spanAddress o (allowedWords s o))) ≡ false
+pub first-denied : (s : Setup) (o : Operation) → allowedWords s o < spanWords o → pageGrants s o (firstDenied s o) ≡ false
 unfolding allowedWords
 first-denied s o l =
     let from : ℕ = spanStart o .0 in
@@ -176,14 +176,6 @@ span-granted s o k b h l =
     let fits : spanWords o ≤ allowedWords s o = ltb-false _ _ (rw b at h) in
     before-granted s o k (omega arith)
 
--- A span that is denied has a word on a page without the right.
-pub denied-has-one : (s : Setup) (o : Operation) → isBankErase o ≡ false → denied s o ≡ true
-    → (k : ℕ) × ((k < spanWords o) × (pageGrants s o (pageOf (spanAddress o k)) ≡ false))
-unfolding denied
-denied-has-one s o b h =
-    let l : allowedWords s o < spanWords o = ltb-true _ _ (rw b at h) in
-    (allowedWords s o, (l, first-denied s o l))
-
 -- A bank erase that is not denied has its bank's permission.
 pub bank-granted : (s : Setup) (o : Operation) → isBankErase o ≡ true → denied s o ≡ false
     → getD (s .settings .erase) (bankOf (s .pages) (pageOf (o .address))) false ≡ true
@@ -193,7 +185,7 @@ bank-granted s o b h = not-false _ (rw b at h)
 -- ---- information pages
 
 -- The isolated page is no seed page: its own switch and rights decide, whatever the inputs are.
-pub isolated-ordinary : (i : Inputs) (s : Settings) → infoRights i s (infoIndex 0 0 isolatedPage)
-    ≡ pageRights (getD (s .info) (infoIndex 0 0 isolatedPage) pageOff)
-unfolding infoRights seedClosed
+pub isolated-ordinary : (i : Inputs) (s : Settings) → infoRuling i s (infoIndex 0 0 isolatedPage)
+    ≡ record { rights = pageRights (getD (s .info) (infoIndex 0 0 isolatedPage) pageOff); decider = by.PageSetting }
+unfolding infoRuling seedClosed
 isolated-ordinary i s = refl

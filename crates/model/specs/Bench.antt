@@ -1,4 +1,4 @@
--- The starred cases of the bench sheet, each put to the definition of a call. (01, 'Bench sheet')
+-- The starred cases of the bench sheet (01, 'Bench sheet') and those of who denies (02, L2), each put to the definition of a call.
 use Prim.Native.Nat.{ℕ, zero, suc}
 use mathlib.Core.Bool.{Bool, true, false, _&&_}
 use mathlib.Core.List.{List, [], _∷_}
@@ -7,7 +7,7 @@ use lib.ListN.{replicate}
 use Rattle.model.specs.Geometry.{infoCount, byteAddress, firstWord, dataImagePage, specialPage, creatorPage}
 use Rattle.model.specs.Words.{allOnes}
 use Rattle.model.specs.State.{Flash, flash, Leaves, stored, resetController}
-use Rattle.model.specs.Refusals.{numberOf}
+use Rattle.model.specs.Refusals.{numberOf, reported}
 use Rattle.model.specs.Settings.{setInputs, setRegion, setDefault, setInfo, setErase}
 use Rattle.model.specs.Lifecycle.{reset, initialise}
 use Rattle.model.specs.Steps.{start, push, step}
@@ -84,6 +84,8 @@ pub data Case : Type 0 where
   initialises : ℕ → ℕ → ℕ → Case
   -- start of an operation answers this number
   asks : Controller → Operation → ℕ → Case
+  -- start of an operation answers this number, and reports this one
+  reports : Controller → Operation → ℕ → ℕ → Case
   -- a step leaves this word at place 0, and changes so many bits
   leaves : Leaves Stepped → ℕ → ℕ → Case
   -- two numbers are equal
@@ -93,6 +95,7 @@ abbrev pub holds : Case → Bool
 holds (resets d n) = eqb (numberOf (reset bench d .answer)) n
 holds (initialises d words n) = eqb (numberOf (initialise (reset bench d .controller) (blank words) .answer)) n
 holds (asks c o n) = eqb (numberOf (start c o .answer)) n
+holds (reports c o n by) = eqb (numberOf (start c o .answer)) n && eqb (reported (start c o .answer)) by
 holds (leaves s word bits) =
     eqb (numberOf (s .result .answer)) 0
     && (eqb (stored (s .flash) (record { 0 = 0 })) word
@@ -145,4 +148,43 @@ cases =
     ∷ asks seedsLocked (op 2 1 0 0x0400 1) 9
     -- Fresh controller, kind 9: 3, since 3 precedes 5.
     ∷ asks (allRights 16 false) (op 9 0 0 0 1) 3
+    ∷ []
+
+-- ---- who denies: each decider, 0 to 7 a region, 8 the default, 9 a page's setting, 10 the seed lock, 11 a bank's permission
+
+-- D = 16 and nothing given.
+unfoldable pub nothingGiven : Controller
+nothingGiven = ready 14848 (reset (resetController 0) 16 .controller)
+
+-- Page 1 is held by region 0, which gives nothing, and by region 1, which gives programming; page 2 by region 1 alone.
+unfoldable pub heldTwice : Controller
+heldTwice = setRegion (setRegion bench 0 (region true 1 1 0) .controller) 1 (region true 1 2 2) .controller
+
+-- Information page 0 of bank 0 and type 0 is off.
+unfoldable pub firstOff : Controller → Controller
+firstOff c = setInfo c 0 0 0 (record { on = false; rights = 7 }) .controller
+
+unfoldable pub denials : List Case
+denials =
+    -- The lowest-numbered region is named, also where a higher one would allow.
+    reports (twoRegions true) (op 1 0 0 0x0800 1) 9 0
+    ∷ reports heldTwice (op 1 0 0 0x0400 1) 9 0
+    ∷ reports heldTwice (op 2 0 0 0x0800 0) 9 1
+    -- A read names who decides the first denied page: here the second of four, and the first of two.
+    ∷ reports heldTwice (op 0 0 0 0 1024) 9 0
+    ∷ reports heldTwice (op 0 0 0 0x0800 512) 9 1
+    ∷ reports nothingGiven (op 0 0 0 0 1024) 9 8
+    -- An information page's setting, whether it is off or lacks the right.
+    ∷ reports nothingGiven (op 1 1 2 0x0400 1) 9 9
+    ∷ reports (firstOff seedsLocked) (op 0 1 0 0 768) 9 9
+    -- The seed lock: of a page that its setting would allow, of one where both deny, and on the way of a read.
+    ∷ reports seedsLocked (op 2 1 0 0x0400 0) 9 10
+    ∷ reports nothingGiven (op 1 1 0 0x0800 1) 9 10
+    ∷ reports seedsLocked (op 0 1 0 0 768) 9 10
+    -- A bank erase names the bank's permission.
+    ∷ reports nothingGiven (op 3 0 0 0 0) 9 11
+    ∷ reports nothingGiven (op 3 1 0 0x4000 0) 9 11
+    -- Nobody is named where the operation is accepted, or refused otherwise.
+    ∷ reports heldTwice (op 1 0 0 0x0800 1) 0 255
+    ∷ reports nothingGiven (op 1 0 0 0 17) 8 255
     ∷ []

@@ -5,7 +5,7 @@ use lib.Dec.{ltb, leb, eqb}
 use Rattle.model.specs.Geometry.{dataPages, infoCount, pageBytes, pageOf, bankOf}
 use Rattle.model.specs.Kinds.{isProgram, isBankErase, isInformation, noKind, noPartition, usesCount, usesType, maxCount}
 use Rattle.model.specs.Places.{spanWords, spanAddress}
-use Rattle.model.specs.Rights.{denied}
+use Rattle.model.specs.Rights.{denied, deciderOf}
 use Rattle.model.specs.Refusals.{check, orElse}
 use Rattle.model.specs.declared.ByteAddress.{ByteAddress}
 use Rattle.model.specs.declared.Operation.{Operation}
@@ -58,4 +58,4 @@ operationAnswer s o =
     orElse (check (malformed o) Malformed)
     (orElse (check (outOfRange (s .pages) o) OutOfRange)
     (orElse (check (crossesWindow o) CrossesWindow)
-    (check (denied s o) Denied)))
+    (check (denied s o) (Denied (deciderOf s o)))))

@@ -8,8 +8,8 @@ use lib.ListN.{take, drop}
 use Rattle.model.specs.Geometry.{dataPages, pageWords, pageOf, imagePage, firstWord, wordAt}
 use Rattle.model.specs.Kinds.{readRight}
 use Rattle.model.specs.State.{Flash}
-use Rattle.model.specs.Rights.{grants, rightsAt}
-use Rattle.model.specs.Refusals.{accepts, numberOf, check, orElse, readyAnswer}
+use Rattle.model.specs.Rights.{grants, rulingAt}
+use Rattle.model.specs.Refusals.{accepts, numberOf, reported, check, orElse, readyAnswer}
 use Rattle.model.specs.Checks.{unaligned, pastData}
 use Rattle.model.specs.Valid.{validWith}
 use Rattle.model.specs.Steps.{delivered}
@@ -22,9 +22,12 @@ use Rattle.model.specs.declared.Fetched.{Fetched}
 use Rattle.model.specs.declared.Answer.{Answer}
 use Rattle.model.specs.declared.Answer.the-variants.{Malformed, OutOfRange, Denied}
 
--- A host read or page view needs the read right on its data page.
+-- A host read or page view needs the read right on its data page. Denied, it names who decided.
 abbrev pub unreadable : Setup → Page → Bool
-unreadable s p = not (grants (rightsAt s false 0 p) readRight)
+unreadable s p = not (grants (rulingAt s false 0 p .rights) readRight)
+
+abbrev pub readAnswer : Setup → Page → Answer
+readAnswer s p = check (unreadable s p) (Denied (rulingAt s false 0 p .decider))
 
 -- ---- host read: checks 1, 2, 3, 5, 7 and 9
 
@@ -33,7 +36,7 @@ hostAnswer c f a =
     orElse (readyAnswer (validWith c f) (c .phase))
     (orElse (check (unaligned a) Malformed)
     (orElse (check (pastData (c .setup .pages) a) OutOfRange)
-    (check (unreadable (c .setup) (pageOf a)) Denied)))
+    (readAnswer (c .setup) (pageOf a))))
 
 unfoldable pub hostRead : Controller → Flash → ByteAddress → Fetched
 hostRead c f a = record {
@@ -48,18 +51,21 @@ unfoldable pub viewAnswer : Controller → Flash → Page → Answer
 viewAnswer c f p =
     orElse (readyAnswer (validWith c f) (c .phase))
     (orElse (check (leb (dataPages (c .setup .pages)) (p .0)) OutOfRange)
-    (check (unreadable (c .setup) p) Denied))
+    (readAnswer (c .setup) p))
 
--- A view is the page's own 256 words inside the lent image: its number, where it starts in the image, and its words.
+-- A view is the page's own 256 words inside the lent image: its number, what it reports, where it starts in the image, and its
+-- words.
 -- Refused, it is empty, and starts where the image does.
 pub record View : Type 0 where
   pub number : ℕ
+  pub decider : ℕ
   pub start : BusWord
   pub words : List ℕ
 
 abbrev pub viewOf : Controller → Flash → Page → Answer → View
 viewOf c f p a = record {
   number = numberOf a;
+  decider = reported a;
   start = cond (accepts a) (firstWord (imagePage (c .setup .pages) false 0 p)) (record { 0 = 0 });
   words = cond (accepts a) (take pageWords (drop (firstWord (imagePage (c .setup .pages) false 0 p) .0) (f .words))) [];
 }

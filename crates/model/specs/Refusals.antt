@@ -1,9 +1,11 @@
--- The refusals by number, and chains of checks. (01, 'When the desk says no')
+-- The refusals by number and what they report, and chains of checks. (01, 'When the desk says no'; 02, L2)
 use Prim.Native.Nat.{ℕ}
 use mathlib.Core.Bool.{Bool, not, cond}
 use lib.Dec.{eqb}
 use Rattle.model.specs.declared.Answer.{Answer}
 use Rattle.model.specs.declared.Answer.the-variants.{Accepted, Invalid, Disabled, Uninitialised, Busy, Malformed, ShortBuffer, OutOfRange, CrossesWindow, Denied, QueueEmpty, QueueFull, Unexpected, BadSetting}
+use Rattle.model.specs.declared.Decider.{Decider}
+use Rattle.model.specs.declared.Decider.the-variants as decider
 use Rattle.model.specs.declared.Controller.{Controller}
 use Rattle.model.specs.declared.Outcome.{Outcome}
 use Rattle.model.specs.declared.Phase.{Phase}
@@ -20,11 +22,39 @@ numberOf Malformed = 5
 numberOf ShortBuffer = 6
 numberOf OutOfRange = 7
 numberOf CrossesWindow = 8
-numberOf Denied = 9
+numberOf (Denied by) = 9
 numberOf QueueEmpty = 10
 numberOf QueueFull = 11
 numberOf Unexpected = 12
 numberOf BadSetting = 13
+
+-- The number of a decider: 0 to 7 a region's own, 8 the default (02, L14); the others are house.
+abbrev pub deciderNumber : Decider → ℕ
+deciderNumber (decider.Region i) = i
+deciderNumber decider.Default = 8
+deciderNumber decider.PageSetting = 9
+deciderNumber decider.SeedLock = 10
+deciderNumber decider.BankPermission = 11
+
+-- What an answer reports: refusal 9 who decided, every other answer nobody.
+abbrev pub noDecider : ℕ
+noDecider = 255
+
+abbrev pub reported : Answer → ℕ
+reported Accepted = noDecider
+reported Invalid = noDecider
+reported Disabled = noDecider
+reported Uninitialised = noDecider
+reported Busy = noDecider
+reported Malformed = noDecider
+reported ShortBuffer = noDecider
+reported OutOfRange = noDecider
+reported CrossesWindow = noDecider
+reported (Denied by) = deciderNumber by
+reported QueueEmpty = noDecider
+reported QueueFull = noDecider
+reported Unexpected = noDecider
+reported BadSetting = noDecider
 
 abbrev pub accepts : Answer → Bool
 accepts a = eqb (numberOf a) 0

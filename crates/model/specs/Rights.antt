@@ -1,5 +1,5 @@
 -- Who may touch which page: the look-up of rights, the seed pages, and the one check over a span of pages.
--- (01, 'Who may touch which page')
+-- (01, 'Who may touch which page'; 02, L2)
 use Prim.Native.Nat.{ℕ, zero, suc, _+_, _-_, _*_, _/_, _%_, min}
 use mathlib.Core.Bool.{Bool, false, _&&_, _||_, not, cond}
 use mathlib.Core.List.{List, [], _∷_}
@@ -7,7 +7,7 @@ use lib.Dec.{ltb, leb, eqb}
 use lib.ListN.{getD}
 use Rattle.model.specs.Geometry.{pageBytes, pageWords, pageOf, bankOf, pageInBank, wordInPage, infoIndex, isData, dataPageOf, infoIndexOf, creatorPage, ownerPage}
 use Rattle.model.specs.Kinds.{isInformation, isBankErase, rightNeeded}
-use Rattle.model.specs.Places.{spanStart, spanWords}
+use Rattle.model.specs.Places.{spanStart, spanWords, spanAddress}
 use Rattle.model.specs.State.{pageOff}
 use Rattle.model.specs.declared.Page.{Page}
 use Rattle.model.specs.declared.ImagePage.{ImagePage}
@@ -17,6 +17,9 @@ use Rattle.model.specs.declared.PageSetting.{PageSetting}
 use Rattle.model.specs.declared.Settings.{Settings}
 use Rattle.model.specs.declared.Operation.{Operation}
 use Rattle.model.specs.declared.Setup.{Setup}
+use Rattle.model.specs.declared.Ruling.{Ruling}
+use Rattle.model.specs.declared.Decider.{Decider}
+use Rattle.model.specs.declared.Decider.the-variants as by
 
 -- Rights are numbers that add up: one of them is among them.
 abbrev pub grants : ℕ → ℕ → Bool
@@ -28,10 +31,12 @@ grants rights right = eqb (rights / right % 2) 1
 abbrev pub decides : Page → Region → Bool
 decides p g = g .on && (leb (g .first .0) (p .0) && ltb (p .0) (g .first .0 + g .count))
 
--- The lowest-numbered region that is on and holds the page decides, alone. If there is none, the default rights decide.
-unfoldable pub dataRights : List Region → ℕ → Page → ℕ
-dataRights [] other p = other
-dataRights (g ∷ gs) other p = cond (decides p g) (g .rights) (dataRights gs other p)
+-- The look-up answers the rights and who decided: the lowest-numbered region that is on and holds the page decides, alone. If
+-- there is none, the default rights decide. (The list has the regions from number i on.)
+unfoldable pub dataRuling : ℕ → List Region → ℕ → Page → Ruling
+dataRuling i [] other p = record { rights = other; decider = by.Default }
+dataRuling i (g ∷ gs) other p =
+    cond (decides p g) (record { rights = g .rights; decider = by.Region i }) (dataRuling (i + 1) gs other p)
 
 -- ---- information pages, by their index 0 to 25
 
@@ -45,29 +50,33 @@ seedClosed i page =
 abbrev pub pageRights : PageSetting → ℕ
 pageRights s = cond (s .on) (s .rights) 0
 
-unfoldable pub infoRights : Inputs → Settings → ℕ → ℕ
-infoRights i s page = cond (seedClosed i page) 0 (pageRights (getD (s .info) page pageOff))
+-- Where both page setting and seed lock deny, the seed lock is named. So it is where the setting would allow: then the lock alone
+-- denies.
+unfoldable pub infoRuling : Inputs → Settings → ℕ → Ruling
+infoRuling i s page =
+    cond (seedClosed i page) (record { rights = 0; decider = by.SeedLock })
+    (record { rights = pageRights (getD (s .info) page pageOff); decider = by.PageSetting })
 
 -- ---- the look-up, for either partition; denied pages have no rights
 
-unfoldable pub rightsAt : Setup → Bool → ℕ → Page → ℕ
-rightsAt s information t p =
+unfoldable pub rulingAt : Setup → Bool → ℕ → Page → Ruling
+rulingAt s information t p =
     cond information
-    (infoRights (s .inputs) (s .settings) (infoIndex (bankOf (s .pages) p) t (pageInBank (s .pages) p)))
-    (dataRights (s .settings .regions) (s .settings .«default_rights») p)
+    (infoRuling (s .inputs) (s .settings) (infoIndex (bankOf (s .pages) p) t (pageInBank (s .pages) p)))
+    (dataRuling 0 (s .settings .regions) (s .settings .«default_rights») p)
 
 -- The look-up by page of the image.
-unfoldable pub rightsOfPage : Setup → ImagePage → ℕ
-rightsOfPage s q =
+unfoldable pub rulingOfPage : Setup → ImagePage → Ruling
+rulingOfPage s q =
     cond (isData (s .pages) q)
-    (dataRights (s .settings .regions) (s .settings .«default_rights») (dataPageOf (s .pages) q))
-    (infoRights (s .inputs) (s .settings) (infoIndexOf (s .pages) q))
+    (dataRuling 0 (s .settings .regions) (s .settings .«default_rights») (dataPageOf (s .pages) q))
+    (infoRuling (s .inputs) (s .settings) (infoIndexOf (s .pages) q))
 
 -- ---- an operation's span
 
 -- A page of the span has the right that the operation needs.
 abbrev pub pageGrants : Setup → Operation → Page → Bool
-pageGrants s o p = grants (rightsAt s (isInformation o) (o .info) p) (rightNeeded o)
+pageGrants s o p = grants (rulingAt s (isInformation o) (o .info) p .rights) (rightNeeded o)
 
 -- How many of the n pages from a page on pass a test before the first that fails.
 unfoldable pub leading : (Page → Bool) → Page → ℕ → ℕ
@@ -90,6 +99,15 @@ denied s o =
     cond (isBankErase o)
     (not (getD (s .settings .erase) (bankOf (s .pages) (pageOf (o .address))) false))
     (ltb (allowedWords s o) (spanWords o))
+
+-- The page of the word after the allowed ones: the first denied page of a span that is denied.
+abbrev pub firstDenied : Setup → Operation → Page
+firstDenied s o = pageOf (spanAddress o (allowedWords s o))
+
+-- Who denies it: for a bank erase the bank's permission is named, else it's the decider at the first denied page. (02, L2)
+unfoldable pub deciderOf : Setup → Operation → Decider
+deciderOf s o =
+    cond (isBankErase o) by.BankPermission (rulingAt s (isInformation o) (o .info) (firstDenied s o) .decider)
 
 -- How many words of a read are the stored ones: all, or none if one of its pages denies it (01: the whole read is blank).
 unfoldable pub readableWords : Setup → Operation → ℕ

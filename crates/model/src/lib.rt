@@ -29,6 +29,9 @@ pub const QUEUE_WORDS: u32 = 16;
 // A lost count is at most this: then the controller goes before the host.
 pub const LOST_LIMIT: u32 = 5;
 
+// What an answer reports that names no decider.
+pub const NO_DECIDER: u8 = 255;
+
 pub const ERASED: u32 = 0xFFFF_FFFF;
 
 pub const WIDE_PAGE_WORDS: usize = PAGE_WORDS as usize;
@@ -169,9 +172,28 @@ pub struct Controller {
     pub physical: Physical,
 }
 
+// ---- who decides
+
+// Who decides what may be done: of a data page the region of that number or the default rights, of an information page its
+// setting or the seed lock, and of a bank erase the bank's permission. (02, L2)
+pub enum Decider {
+    Region(u8),
+    Default,
+    PageSetting,
+    SeedLock,
+    BankPermission,
+}
+
+// What the look-up of rights answers for a page.
+pub struct Ruling {
+    pub rights: u8,
+    pub decider: Decider,
+}
+
 // ---- what calls hand back
 
-// A call's answer: accepted, or the refusal. specs/Refusals.antt gives each its number in 01.
+// A call's answer: accepted, or the refusal. Where access is denied, it says who decided.
+// specs/Refusals.antt gives each its number in 01, and what it reports.
 pub enum Answer {
     Accepted,
     Invalid,
@@ -182,7 +204,7 @@ pub enum Answer {
     ShortBuffer,
     OutOfRange,
     CrossesWindow,
-    Denied,
+    Denied(Decider),
     QueueEmpty,
     QueueFull,
     Unexpected,

@@ -26,7 +26,7 @@ use Rattle.registers.specs.Layout.{runningAt}
 use Rattle.registers.specs.Registers.{decode, standsFor, isOn, workAt, progressAt, errorsAt, putRunning, putProgress, putErrors, put}
 use Rattle.registers.proofs.Kept.{valid-encoded, itself, parts, progress-kept}
 use Rattle.registers.proofs.Written.{put-starting}
-use Rattle.calls.specs.Calls.{changes, startIn}
+use Rattle.calls.specs.Calls.{toldAnswer, changes, startIn}
 use Rattle.validity.proofs.Taken.{taken-stands}
 use Rattle.operations.specs.Starting.{Begins}
 
@@ -80,7 +80,7 @@ changes-answered x o =
 
 module _ (s : List ℕ) (o : Operation) (first : Answer) (asked : first ≡ startAnswer (decode s)) where
   -- Checks 1 to 4 refuse,
-  pub start-early : accepts first ≡ false → record { told = numberOf first; registers = s } ≡ startIn s o
+  pub start-early : accepts first ≡ false → record { told = toldAnswer first; registers = s } ≡ startIn s o
   unfolding startIn
   start-early h =
       let refused : accepts (startAnswer (decode s)) ≡ false = rw asked at h in
@@ -110,7 +110,7 @@ module _ (s : List ℕ) (o : Operation) (first : Answer) (asked : first ≡ star
         answered = answered;
       }
 
-      pub start-goes : record { told = numberOf a; registers = put s (started (standsFor s) o a .controller) } ≡ startIn s o
+      pub start-goes : record { told = toldAnswer a; registers = put s (started (standsFor s) o a .controller) } ≡ startIn s o
       unfolding startIn
       start-goes =
           let stands : accepts (startAnswer (standsFor s)) ≡ true = subst (λ (c : Controller). accepts (startAnswer c) ≡ true) same passed in

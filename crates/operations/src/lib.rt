@@ -7,6 +7,7 @@ ghost use Rattle.model.specs.Steps.{startAnswer, starts, progressAfter, started
 ghost use Rattle.registers.specs.Registers.{decode, standsFor, putProgress, put};
 ghost use Rattle.calls.specs.Calls.{startIn};
 ghost use Rattle.operations.specs.Starting.{Begins};
+use calls::ToldAnswer;
 use model::Answer;
 use model::Operation;
 use registers::Registers;
@@ -63,14 +64,14 @@ fn started(s: &mut Registers, o: Operation, answer: Answer)
     registers::put_errors(s, errors);
 }
 
-pub fn start(s: &mut Registers, o: Operation) -> u32
+pub fn start(s: &mut Registers, o: Operation) -> ToldAnswer
     ensures { λ r. ⌜ record { told = r; registers = now (s .exit) } ≡ startIn (now (s .entry)) o ⌝ }
 {
     let first = start_answer(s);
     if !refusals::accepts(first) {
-        return calls::number(first);
+        return calls::told(first);
     }
     let answer = lookups::operation_answer(s, o);
     started(s, o, answer);
-    calls::number(answer)
+    calls::told(answer)
 }

@@ -81,9 +81,9 @@ pub fn span_words(o: Operation) -> u32
     }
 }
 
-// The address of word `k`, wide enough that no sum wraps.
+// The address of word `k`, wide enough that no sum wraps: below five times 4,294,967,296.
 pub fn span_address(o: Operation, k: u32) -> usize
-    ensures { λ r. ⌜ r ≡ spanAddress o k .0 ⌝ }
+    ensures { λ r. ⌜ (r ≡ spanAddress o k .0) × (r < 21474836480) ⌝ }
 {
     let start = span_start(o);
     start.0 as usize + 4 * (k as usize)

@@ -28,7 +28,7 @@ plan-answers : (c : Controller) (f g : Flash) (o : Operation) (b : List ℕ) (p 
 unfolding performed
 plan-answers c f g o b (Refused a) = refl
 plan-answers c f g o b (Recorded a) = refl
-plan-answers c f g o b (Blank n) = refl
+plan-answers c f g o b (Blank a n) = refl
 plan-answers c f g o b (Reads ps) = refl
 plan-answers c f g o b (Programs ps) = refl
 plan-answers c f g o b (Erases ps) = refl
@@ -78,6 +78,6 @@ module _ (c : Controller) (f : Flash) (o : Operation) (b : List ℕ) where
       by-test (accepts (operationAnswer (c .setup) o)) (started-changes a s)
       (λ n.
       by-test (isRead o && isDenied (operationAnswer (c .setup) o))
-      (λ d. same (by-plan (Blank (o .count)) (rw (a, s, n, d))))
+      (λ d. same (by-plan (Blank (operationAnswer (c .setup) o) (o .count)) (rw (a, s, n, d))))
       (λ d. same (by-plan (Recorded (operationAnswer (c .setup) o)) (rw (a, s, n, d)))))))
       (λ a. same (by-plan (Refused (wholeAnswer c f)) (rw a)))

@@ -17,7 +17,7 @@ use Rattle.model.specs.Steps.{starts}
 use Rattle.model.specs.Whole.{wholeAnswer, shortBuffer, whole}
 use Rattle.model.specs.declared.Operation.{Operation}
 use Rattle.model.specs.declared.Controller.{Controller}
-use Rattle.model.specs.declared.Answer.the-variants.{Accepted, Denied}
+use Rattle.model.specs.declared.Answer.the-variants.{Accepted}
 use Rattle.model.proofs.Bool.{which, and-left, and-right}
 use Rattle.model.proofs.Places.{moving-words}
 use Rattle.model.proofs.Answers.{answer-named}
@@ -72,15 +72,14 @@ module _ (c : Controller) (f : Flash) (o : Operation) (b : List ℕ) (free : acc
   -- ---- denied, or refused otherwise
 
   -- A denied read delivers ones.
-  blank : isRead o ≡ true → isDenied (operationAnswer (c .setup) o) ≡ true → Performs (Blank (o .count))
+  blank : isRead o ≡ true → isDenied (operationAnswer (c .setup) o) ≡ true → Performs (Blank (operationAnswer (c .setup) o) (o .count))
   unfolding Performs performed
   blank r d =
       let n = moving-words (c .setup .pages) o (omega (arith, eqb-true (o .kind) 0 r)) in
       let asked : (accepts (operationAnswer (c .setup) o) || isDenied (operationAnswer (c .setup) o)) ≡ true = rw (d, or-true) in
       let none : readableWords (c .setup) o ≡ 0 = readable-by-answer (c .setup) o asked ∙ rw d in
-      let named : operationAnswer (c .setup) o ≡ Denied = answer-named (c .setup) o asked ∙ rw d in
       whole-read c f o b free room (rw (r, d, or-true)) r
-      ∙ rw (none, read-blank, n, named)
+      ∙ rw (none, read-blank, n)
 
   -- So each answer's plan is performed,
   answered : Performs (planAnswered (c .setup .pages) o (operationAnswer (c .setup) o))

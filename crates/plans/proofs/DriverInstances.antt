@@ -9,7 +9,7 @@ use Rattle.model.specs.Words.{allOnes, programmed, changedBits, differIn}
 use Rattle.model.specs.Places.{totalWords, placeOf}
 use Rattle.model.specs.Queue.{held, queueOf, pushed, oldest, popped}
 use Rattle.model.specs.State.{Flash, flash, flashFits, resetController}
-use Rattle.model.specs.Rights.{dataRights, rightsAt, leading, allowedWords, denied, readableWords}
+use Rattle.model.specs.Rights.{dataRuling, rulingAt, leading, allowedWords, denied, readableWords}
 use Rattle.model.specs.Refusals.{accepts}
 use Rattle.model.specs.Checks.{malformed, outOfRange, crossesWindow, operationAnswer}
 use Rattle.model.specs.Valid.{settingsFit, workFits, runningFits, physicalFits, valid, validWith}
@@ -65,11 +65,11 @@ pub record Meets (o : Operation) (b : List ℕ) (ks : List Drive) : Type 0 where
   pub ended : Ended b (end o ks)
 
 pub program-meets : Meets program programBuffer programCalls
-unfolding imagePage wordAt programmed totalWords placeOf held queueOf pushed oldest popped leading dataRights rightsAt allowedWords denied readableWords malformed outOfRange crossesWindow operationAnswer settingsFit workFits runningFits physicalFits valid flashFits validWith recorded configured setRegion initialiseAnswer initialise startAnswer start pushAnswer push stalls delivered countedBits advance stepProgress step popAnswer pop wholeAnswer
+unfolding imagePage wordAt programmed totalWords placeOf held queueOf pushed oldest popped leading dataRuling rulingAt allowedWords denied readableWords malformed outOfRange crossesWindow operationAnswer settingsFit workFits runningFits physicalFits valid flashFits validWith recorded configured setRegion initialiseAnswer initialise startAnswer start pushAnswer push stalls delivered countedBits advance stepProgress step popAnswer pop wholeAnswer
 program-meets = record { free = refl; room = refl; goes = refl; ended = record { idle = refl; drained = refl; in-order = refl } }
 
 pub read-meets : Meets read readBuffer readCalls
-unfolding imagePage wordAt programmed totalWords placeOf held queueOf pushed oldest popped leading dataRights rightsAt allowedWords denied readableWords malformed outOfRange crossesWindow operationAnswer settingsFit workFits runningFits physicalFits valid flashFits validWith recorded configured setRegion initialiseAnswer initialise startAnswer start pushAnswer push stalls delivered countedBits advance stepProgress step popAnswer pop wholeAnswer
+unfolding imagePage wordAt programmed totalWords placeOf held queueOf pushed oldest popped leading dataRuling rulingAt allowedWords denied readableWords malformed outOfRange crossesWindow operationAnswer settingsFit workFits runningFits physicalFits valid flashFits validWith recorded configured setRegion initialiseAnswer initialise startAnswer start pushAnswer push stalls delivered countedBits advance stepProgress step popAnswer pop wholeAnswer
 read-meets = record { free = refl; room = refl; goes = refl; ended = record { idle = refl; drained = refl; in-order = refl } }
 
 -- So the law applies to both:
@@ -91,7 +91,7 @@ pub record Leave : Type 0 where
   pub delivered : whole ready image read readBuffer .buffer ≡ 0 ∷ 7 ∷ 9 ∷ 4 ∷ []
 
 pub leave : Leave
-unfolding imagePage wordAt programmed totalWords placeOf held queueOf pushed oldest popped leading dataRights rightsAt allowedWords denied readableWords malformed outOfRange crossesWindow operationAnswer settingsFit workFits runningFits physicalFits valid flashFits validWith recorded configured setRegion initialiseAnswer initialise startAnswer start pushAnswer push stalls delivered countedBits advance stepProgress step popAnswer pop changedBits differIn
+unfolding imagePage wordAt programmed totalWords placeOf held queueOf pushed oldest popped leading dataRuling rulingAt allowedWords denied readableWords malformed outOfRange crossesWindow operationAnswer settingsFit workFits runningFits physicalFits valid flashFits validWith recorded configured setRegion initialiseAnswer initialise startAnswer start pushAnswer push stalls delivered countedBits advance stepProgress step popAnswer pop changedBits differIn
 leave = record {
   programmed = ap (λ (f : Flash). take 5 (f .words)) (sym (program-same .flash));
   fallen = sym (program-same .bits);

@@ -14,7 +14,7 @@ performed-leaves : (c : Controller) (f : Flash) (o : Operation) (b : List ℕ) (
 unfolding performed
 performed-leaves c f o b (Refused a) = (refl, refl)
 performed-leaves c f o b (Recorded a) = (refl, refl)
-performed-leaves c f o b (Blank n) = (refl, refl)
+performed-leaves c f o b (Blank a n) = (refl, refl)
 performed-leaves c f o b (Reads ps) = (refl, refl)
 performed-leaves c f o b (Programs ps) = (refl, refl)
 performed-leaves c f o b (Erases ps) = (refl, refl)

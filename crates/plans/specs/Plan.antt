@@ -20,16 +20,17 @@ use Rattle.model.specs.declared.Operation.{Operation}
 use Rattle.model.specs.declared.Setup.{Setup}
 use Rattle.model.specs.declared.Controller.{Controller}
 use Rattle.model.specs.declared.Answer.{Answer}
-use Rattle.model.specs.declared.Answer.the-variants.{Accepted, ShortBuffer, Denied}
+use Rattle.model.specs.declared.Answer.the-variants.{Accepted, ShortBuffer}
 
 -- ---- the plan
 
--- `Refused` changes nothing, `Recorded` the error record alone. A `Blank` read delivers n words of ones, and is recorded.
+-- `Refused` changes nothing, `Recorded` the error record alone. A `Blank` read is recorded too, and delivers n words of ones.
+-- Each of these has the answer, with what it reports.
 -- The others start: they read, program or erase these places, in this order.
 pub data Plan : Type 0 where
   Refused : Answer → Plan
   Recorded : Answer → Plan
-  Blank : ℕ → Plan
+  Blank : Answer → ℕ → Plan
   Reads : List BusWord → Plan
   Programs : List BusWord → Plan
   Erases : List BusWord → Plan
@@ -49,7 +50,7 @@ planStarted d o =
 -- By the answer of checks 5, 7, 8 and 9.
 abbrev pub planAnswered : ℕ → Operation → Answer → Plan
 planAnswered d o a =
-    cond (accepts a) (planStarted d o) (cond (isRead o && isDenied a) (Blank (o .count)) (Recorded a))
+    cond (accepts a) (planStarted d o) (cond (isRead o && isDenied a) (Blank a (o .count)) (Recorded a))
 
 -- Checks 1 to 4, then 6 of a well-formed operation, then the others.
 unfoldable pub planOf : Controller → Flash → Operation → List ℕ → Plan
@@ -93,8 +94,8 @@ programsDrained c = withQueues c (withPrograms (c .queues) emptyQueue)
 unfoldable pub performed : Controller → Flash → Operation → List ℕ → Plan → WholeLeaves
 performed c f o b (Refused a) = leaving c a 0 f b
 performed c f o b (Recorded a) = leaving (withRecorded c (numberOf a) o) a 0 f b
-performed c f o b (Blank n) =
-    leaving (readsDrained (withRecorded c (numberOf Denied) o)) Denied 0 f (replicate n allOnes ++ drop n b)
+performed c f o b (Blank a n) =
+    leaving (readsDrained (withRecorded c (numberOf a) o)) a 0 f (replicate n allOnes ++ drop n b)
 performed c f o b (Reads ps) = leaving (readsDrained c) Accepted 0 f (deliveredAt f ps ++ drop (length ps) b)
 performed c f o b (Programs ps) =
     leaving (programsDrained c) Accepted (changed-all (c .setup) (programming b) 0 ps f) (stored-all (programming b) 0 ps f) b

@@ -10,7 +10,7 @@ use Rattle.model.specs.Geometry.{bankOfPage}
 use Rattle.model.specs.Kinds.{isProgram, isPageErase, isBankErase, rightNeeded, programRight, eraseRight}
 use Rattle.model.specs.Places.{totalWords, placeOf}
 use Rattle.model.specs.State.{Flash}
-use Rattle.model.specs.Rights.{grants, rightsOfPage}
+use Rattle.model.specs.Rights.{grants, rulingOfPage}
 use Rattle.model.specs.Refusals.{accepts}
 use Rattle.model.specs.Checks.{operationAnswer}
 use Rattle.model.specs.Valid.{valid}
@@ -44,12 +44,12 @@ module _ (s : Setup) (q : ImagePage) where
   bank-open h = rw h
 
   -- nor where it may be programmed,
-  program-open : grants (rightsOfPage s q) programRight ≡ true → protected s q ≡ false
+  program-open : grants (rulingOfPage s q .rights) programRight ≡ true → protected s q ≡ false
   unfolding protected
   program-open h = simp (h, and-false)
 
   -- nor where it may be erased.
-  erase-open : grants (rightsOfPage s q) eraseRight ≡ true → protected s q ≡ false
+  erase-open : grants (rulingOfPage s q .rights) eraseRight ≡ true → protected s q ≡ false
   unfolding protected
   erase-open h = simp (h, and-false)
 
@@ -69,7 +69,7 @@ module _ (c : Controller) (o : Operation) (k : ℕ) (q : ImagePage) (h : valid c
     (some : k < totalWords (c .setup .pages) o) (passed : accepts (operationAnswer (c .setup) o) ≡ true)
     (here : placeOf (c .setup .pages) o k .0 / 256 ≡ q .0) where
   -- A page of a span grants the right that the operation needs,
-  pub span-grants : isBankErase o ≡ false → grants (rightsOfPage (c .setup) q) (rightNeeded o) ≡ true
+  pub span-grants : isBankErase o ≡ false → grants (rulingOfPage (c .setup) q .rights) (rightNeeded o) ≡ true
   span-grants b =
       let checks = accepted-passes (c .setup) o passed in
       rw here at (place-granted (c .setup) o k (checks .1) b (pages-bound c h .0) (checks .0) some)

@@ -1,4 +1,5 @@
 -- The premises of the promises can be met: states that calls reach from reset with D = 10, settled by computation.
+use Prim.Native.Nat.{ℕ}
 use mathlib.Core.Path.{_≡_, refl}
 use mathlib.Core.Bool.{true}
 use mathlib.Core.List.{List, [], _∷_, _++_}
@@ -8,16 +9,16 @@ use Rattle.model.specs.Words.{allOnes, programmed}
 use Rattle.model.specs.Places.{totalWords, placeOf}
 use Rattle.model.specs.Queue.{held, queueOf, pushed, oldest, popped}
 use Rattle.model.specs.State.{flash, flashFits, resetController}
-use Rattle.model.specs.Rights.{dataRights, rightsAt, rightsOfPage, leading, allowedWords, denied, readableWords}
+use Rattle.model.specs.Rights.{dataRuling, seedClosed, infoRuling, rulingAt, rulingOfPage, leading, allowedWords, denied, deciderOf, readableWords}
 use Rattle.model.specs.Checks.{malformed, outOfRange, crossesWindow, operationAnswer}
 use Rattle.model.specs.Valid.{settingsFit, workFits, runningFits, physicalFits, valid, validWith}
 use Rattle.model.specs.Errors.{recorded}
-use Rattle.model.specs.Settings.{configured, setRegion}
+use Rattle.model.specs.Settings.{configured, setRegion, setInfo}
 use Rattle.model.specs.Lifecycle.{initialiseAnswer, initialise}
 use Rattle.model.specs.Steps.{startAnswer, start, pushAnswer, push, popAnswer, pop, stalls, delivered, advance, stepProgress, step}
 use Rattle.model.specs.Whole.{turn, turns, wholeAnswer, drive, whole}
-use Rattle.model.specs.Refusals.{numberOf}
-use Rattle.model.specs.Host.{hostAnswer, hostRead}
+use Rattle.model.specs.Refusals.{numberOf, noDecider, reported}
+use Rattle.model.specs.Host.{hostAnswer, hostRead, viewAnswer, view}
 use Rattle.model.specs.Rounds.{wouldMove, nextBank, hostBank, competes, round}
 use Rattle.model.specs.Bench.{region, op}
 use Rattle.model.specs.declared.Operation.{Operation}
@@ -25,7 +26,7 @@ use Rattle.model.specs.declared.Work.the-variants.{Read}
 use Rattle.model.specs.declared.Progress.the-variants.{Running}
 use Rattle.model.specs.declared.HostRequest.the-variants.{Nothing, Word}
 use Rattle.model.specs.declared.Turn.the-variants.{Waiting}
-use Rattle.promises.specs.Calls.{Call, State, Shaped, SetRegion, Initialise, Start, Step, Push, Whole, Round, perform, run}
+use Rattle.promises.specs.Calls.{Call, State, Reply, Shaped, SetRegion, SetInfo, Initialise, Start, Step, Push, Whole, HostRead, ViewPage, Round, perform, run}
 use Rattle.promises.specs.Confined.{protected, erasable, programmable, unerasedAlong, unprogrammedAlong, protectedAlong, bitOf}
 use Rattle.promises.specs.Counted.{wordsLeft}
 use Rattle.promises.specs.Unknown.{stateOf}
@@ -54,6 +55,20 @@ program = op 1 0 0 4 1
 
 abbrev read : Operation
 read = op 0 0 0 1024 1
+
+-- Pages 2 and 3 read only by region 0, pages 0 to 7 all rights by region 1, no default rights; the creator page on with all
+-- rights, but provision off; and initialised.
+abbrev ruled : State
+ruled =
+    run afterReset (SetRegion 0 (region true 2 2 1) ∷ SetRegion 1 (region true 0 8 7) ∷ SetInfo 0 0 1 (record { on = true; rights = 7 }) ∷ Initialise ∷ [])
+
+-- What a call answers there, and what it reports.
+abbrev told : Call → ℕ × ℕ
+told k = (perform ruled k .reply .answer, perform ruled k .reply .decider)
+
+-- A round of a host read and a step there.
+abbrev rounded : ℕ → Reply
+rounded a = perform ruled (Round (Word (record { 0 = a })) true) .reply
 
 -- What each promise asks for, met.
 pub record Met : Type 0 where
@@ -90,11 +105,29 @@ pub record Met : Type 0 where
   pub whole-high : bitOf (run afterReset (opening ++ (Whole erase [] ∷ [])) .flash) (record { 0 = 0 }) 0 ≡ 1
   pub whole-denied : perform (run afterReset opening) (Whole read (5 ∷ 6 ∷ [])) .reply .answer ≡ 9
   pub whole-blank : perform (run afterReset opening) (Whole read (5 ∷ 6 ∷ [])) .reply .buffer ≡ allOnes ∷ 6 ∷ []
+  -- `NamesDecider`: a program of page 2, which region 1 holds too, and a host read and a view of page 8, which no region does,
+  pub by-region : told (Start (op 1 0 0 2048 1)) ≡ (9, 0)
+  pub by-default : told (HostRead (record { 0 = 8192 })) ≡ (9, 8)
+  pub view-by-default : told (ViewPage (record { 0 = 8 })) ≡ (9, 8)
+  -- a read from page 7, which region 1 grants, into page 8,
+  pub later-page : told (Start (op 0 0 0 8188 2)) ≡ (9, 8)
+  -- a read of information pages 0 to 2, of which page 0 is off, and a whole read of the creator page, which is on,
+  pub by-setting : told (Start (op 0 1 0 0 768)) ≡ (9, 9)
+  pub by-seed-lock : told (Whole (op 0 1 0 1024 1) (5 ∷ [])) ≡ (9, 10)
+  -- and a bank erase at page 0, which itself grants the erase right
+  pub by-permission : told (Start (op 3 0 0 0 0)) ≡ (9, 11)
+  -- `NoneElse`: a read of page 0 is accepted, one of address 2 malformed
+  pub accepted : told (Start (op 0 0 0 0 1)) ≡ (0, noDecider)
+  pub malformed-one : told (Start (op 0 0 0 2 1)) ≡ (5, noDecider)
+  -- `HostNames`: a host read of page 8 in a round whose step is refused
+  pub host-denied : numberOf (rounded 8192 .host .answer) ≡ 9
+  pub host-by-default : reported (rounded 8192 .host .answer) ≡ 8
+  pub step-reports-none : rounded 8192 .decider ≡ noDecider
   -- `BlankUnknown`: the read of page 1 is in progress, blank
   pub blank : reached read .controller .progress ≡ Running (Read read 0 0)
 
 pub met : Met
-unfolding imagePage wordAt programmed totalWords placeOf held queueOf pushed oldest popped leading dataRights rightsAt allowedWords denied readableWords malformed outOfRange crossesWindow operationAnswer settingsFit workFits runningFits physicalFits valid flashFits validWith recorded configured setRegion initialiseAnswer initialise startAnswer start pushAnswer push stalls advance stepProgress step popAnswer pop delivered turn turns wholeAnswer drive whole hostAnswer hostRead wouldMove nextBank hostBank competes round perform rightsOfPage protected erasable programmable
+unfolding imagePage wordAt programmed totalWords placeOf held queueOf pushed oldest popped leading dataRuling seedClosed infoRuling rulingAt allowedWords denied deciderOf readableWords malformed outOfRange crossesWindow operationAnswer settingsFit workFits runningFits physicalFits valid flashFits validWith recorded configured setRegion setInfo initialiseAnswer initialise startAnswer start pushAnswer push stalls advance stepProgress step popAnswer pop delivered turn turns wholeAnswer drive whole hostAnswer hostRead viewAnswer view wouldMove nextBank hostBank competes round perform rulingOfPage protected erasable programmable
 met = record {
   shaped = record { regions = refl; info = refl; erase = refl; reads = refl; programs = refl; lost = refl };
   begins-valid = refl;
@@ -118,5 +151,17 @@ met = record {
   whole-high = refl;
   whole-denied = refl;
   whole-blank = refl;
+  by-region = refl;
+  by-default = refl;
+  view-by-default = refl;
+  later-page = refl;
+  by-setting = refl;
+  by-seed-lock = refl;
+  by-permission = refl;
+  accepted = refl;
+  malformed-one = refl;
+  host-denied = refl;
+  host-by-default = refl;
+  step-reports-none = refl;
   blank = refl;
 }

@@ -13,6 +13,7 @@ pub mod Validity
 -- the others
 pub mod FlashLaws
 pub mod Unrecorded
+pub mod NamedProof
 pub mod RefusedWholes
 pub mod RefusedProof
 pub mod UnknownProof

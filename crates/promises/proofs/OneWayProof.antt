@@ -13,7 +13,7 @@ use Rattle.model.specs.Words.{allOnes, programmed}
 use Rattle.model.specs.Kinds.{isProgram, isPageErase, isBankErase, eraseRight}
 use Rattle.model.specs.Places.{totalWords, placeOf}
 use Rattle.model.specs.State.{Flash}
-use Rattle.model.specs.Rights.{grants, rightsOfPage}
+use Rattle.model.specs.Rights.{grants, rulingOfPage}
 use Rattle.model.specs.Refusals.{accepts}
 use Rattle.model.specs.Checks.{operationAnswer}
 use Rattle.model.specs.Valid.{valid}
@@ -80,7 +80,7 @@ module _ (c : Controller) (o : Operation) (k place : ℕ) (h : valid c ≡ true)
       by-test (isPageErase o)
       (λ t.
       let needs = page-erase-needs o t in
-      let may : grants (rightsOfPage (c .setup) (imagePageOf (record { 0 = place }))) eraseRight ≡ true =
+      let may : grants (rulingOfPage (c .setup) (imagePageOf (record { 0 = place })) .rights) eraseRight ≡ true =
       rw (needs .1) at (span-grants c o k (imagePageOf (record { 0 = place })) h some passed there (needs .0)) in
       simp (may, or-true))
       (λ t.

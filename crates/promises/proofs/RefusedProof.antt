@@ -1,5 +1,5 @@
 -- A refused call moves nothing. Assumes nothing.
-use mathlib.Core.Path.{_≡_, refl, sym, ap}
+use mathlib.Core.Path.{_≡_, refl, sym, ap, _∙_}
 use mathlib.Core.Bool.{true, false, _&&_, cond}
 use Rattle.model.specs.Kinds.{isRead}
 use Rattle.model.specs.State.{isBusy}
@@ -23,9 +23,10 @@ use Rattle.model.proofs.Bool.{by-test}
 use Rattle.model.proofs.Answers.{accepts-not, unrecorded}
 use Rattle.model.proofs.StepLaws.{blank-work, start-goes-on, start-stops, step-refused}
 use Rattle.model.proofs.Rounds.{BothAsked, host, instead, both, both-asked, competes-goes, goes-accepted}
-use Rattle.promises.specs.Calls.{State, Reset, SetInputs, SetRegion, SetDefault, SetInfo, SetErase, Initialise, Start, Step, Push, Pop, Whole, HostRead, ViewPage, Clear, Rma, Round, perform}
-use Rattle.promises.specs.Refused.{leftBy, Leaves, RefusedMovesNothing, RefusedHostServed}
+use Rattle.promises.specs.Calls.{Call, State, Reset, SetInputs, SetRegion, SetDefault, SetInfo, SetErase, Initialise, Start, Step, Push, Pop, Whole, HostRead, ViewPage, Clear, Rma, Round, perform}
+use Rattle.promises.specs.Refused.{leftBy, refusedReply, Leaves, RefusedMovesNothing, RefusedHostServed}
 use Rattle.promises.proofs.Unrecorded.{start-unrecorded}
+use Rattle.promises.proofs.NamedProof.{call-tells}
 use Rattle.promises.proofs.RefusedWholes.{whole-left}
 
 -- A start refused with 5, 7, 8 or 9 starts nothing but a denied read, blank;
@@ -53,6 +54,16 @@ start-left c o h =
     (λ e. let go = start-goes-on c o e in rw go (started-left c o (accepts-not (operationAnswer (c .setup) o) (rw go at h))))
     (λ e. rw (start-stops c o e) (stopped-left c o))
 
+-- What it tells follows from what it reports.
+leaves : (s : State) (k : Call) → perform s k .state .flash ≡ s .flash
+    → perform s k .state .controller ≡ leftBy (s .controller) k (perform s k .reply .answer)
+    → perform s k .reply ≡ refusedReply s k (perform s k .reply .answer) (perform s k .reply .decider) → Leaves s k
+leaves s k f c r = record {
+  flash = f;
+  controller = c;
+  reply = r ∙ ap (refusedReply s k (perform s k .reply .answer)) (call-tells s k .says);
+}
+
 -- A refused step does not compete, so a round of both leaves and tells what the step and the host read by themselves do.
 both-left : (s : State) {a : ByteAddress} → BothAsked (s .controller) (s .flash) a
     → (perform s (Round (Word a) true) .reply .answer ≡ 0 → ⊥) → Leaves s (Round (Word a) true)
@@ -60,33 +71,33 @@ unfolding perform hostRead
 both-left s (host t few e) h = absurd (h (rw e))
 both-left s {a} (instead t many e) h =
     absurd (h (rw e (ap numberOf (goes-accepted (s .controller) (s .flash) (competes-goes (s .controller) (s .flash) a t)))))
-both-left s (both t e) h =
-    let r = step-refused (s .controller) (s .flash) (rw e at h) in record { flash = rw (e, r); controller = rw (e, r); reply = rw (e, r) }
+both-left s {a} (both t e) h =
+    let r = step-refused (s .controller) (s .flash) (rw e at h) in leaves s (Round (Word a) true) (rw (e, r)) (rw (e, r)) (rw (e, r))
 
 -- Every refused call leaves what the table says.
 pub refused-moves-nothing : RefusedMovesNothing
 unfolding perform reset setInputs configured setRegion setDefault setInfo setErase initialise push pop hostRead view clear rma round
-refused-moves-nothing s (Reset d) h = record { flash = refl; controller = rw (accepts-not _ h); reply = refl }
-refused-moves-nothing s (SetInputs i) h = record { flash = refl; controller = rw (accepts-not _ h); reply = refl }
-refused-moves-nothing s (SetRegion n g) h = record { flash = refl; controller = rw (accepts-not _ h); reply = refl }
-refused-moves-nothing s (SetDefault r) h = record { flash = refl; controller = rw (accepts-not _ h); reply = refl }
-refused-moves-nothing s (SetInfo bank t page p) h = record { flash = refl; controller = rw (accepts-not _ h); reply = refl }
-refused-moves-nothing s (SetErase bank on) h = record { flash = refl; controller = rw (accepts-not _ h); reply = refl }
-refused-moves-nothing s Initialise h = record { flash = refl; controller = rw (accepts-not _ h); reply = rw (accepts-not _ h) }
-refused-moves-nothing s (Start o) h = record { flash = refl; controller = start-left (s .controller) o h; reply = refl }
+refused-moves-nothing s (Reset d) h = leaves s (Reset d) refl (rw (accepts-not _ h)) refl
+refused-moves-nothing s (SetInputs i) h = leaves s (SetInputs i) refl (rw (accepts-not _ h)) refl
+refused-moves-nothing s (SetRegion n g) h = leaves s (SetRegion n g) refl (rw (accepts-not _ h)) refl
+refused-moves-nothing s (SetDefault r) h = leaves s (SetDefault r) refl (rw (accepts-not _ h)) refl
+refused-moves-nothing s (SetInfo bank t page p) h = leaves s (SetInfo bank t page p) refl (rw (accepts-not _ h)) refl
+refused-moves-nothing s (SetErase bank on) h = leaves s (SetErase bank on) refl (rw (accepts-not _ h)) refl
+refused-moves-nothing s Initialise h = leaves s Initialise refl (rw (accepts-not _ h)) (rw (accepts-not _ h))
+refused-moves-nothing s (Start o) h = leaves s (Start o) refl (start-left (s .controller) o h) refl
 refused-moves-nothing s Step h =
-    let e = step-refused (s .controller) (s .flash) h in record { flash = rw e; controller = rw e; reply = rw e }
-refused-moves-nothing s (Push w) h = record { flash = refl; controller = rw (accepts-not _ h); reply = refl }
-refused-moves-nothing s Pop h = record { flash = refl; controller = rw (accepts-not _ h); reply = rw (accepts-not _ h) }
+    let e = step-refused (s .controller) (s .flash) h in leaves s Step (rw e) (rw e) (rw e)
+refused-moves-nothing s (Push w) h = leaves s (Push w) refl (rw (accepts-not _ h)) refl
+refused-moves-nothing s Pop h = leaves s Pop refl (rw (accepts-not _ h)) (rw (accepts-not _ h))
 refused-moves-nothing s (Whole o b) h =
-    let e = whole-left (s .controller) (s .flash) o b h in record { flash = rw e; controller = rw e; reply = rw e }
-refused-moves-nothing s (HostRead a) h = record { flash = refl; controller = refl; reply = rw (accepts-not _ h) }
-refused-moves-nothing s (ViewPage p) h = record { flash = refl; controller = refl; reply = rw (accepts-not _ h) }
-refused-moves-nothing s Clear h = record { flash = refl; controller = rw (accepts-not _ h); reply = refl }
-refused-moves-nothing s Rma h = record { flash = rw (accepts-not _ h); controller = rw (accepts-not _ h); reply = refl }
+    let e = whole-left (s .controller) (s .flash) o b h in leaves s (Whole o b) (rw e) (rw e) (rw e)
+refused-moves-nothing s (HostRead a) h = leaves s (HostRead a) refl refl (rw (accepts-not _ h))
+refused-moves-nothing s (ViewPage p) h = leaves s (ViewPage p) refl refl (rw (accepts-not _ h))
+refused-moves-nothing s Clear h = leaves s Clear refl (rw (accepts-not _ h)) refl
+refused-moves-nothing s Rma h = leaves s Rma (rw (accepts-not _ h)) (rw (accepts-not _ h)) refl
 refused-moves-nothing s (Round Nothing false) h = absurd (h refl)
 refused-moves-nothing s (Round Nothing true) h =
-    let e = step-refused (s .controller) (s .flash) h in record { flash = rw e; controller = rw e; reply = rw e }
+    let e = step-refused (s .controller) (s .flash) h in leaves s (Round Nothing true) (rw e) (rw e) (rw e)
 refused-moves-nothing s (Round (Word a) false) h = absurd (h refl)
 refused-moves-nothing s (Round (Word a) true) h = both-left s (both-asked (s .controller) (s .flash) a) h
 

@@ -14,7 +14,7 @@ use Rattle.model.specs.declared.Operation.{Operation}
 use Rattle.model.specs.declared.Controller.{Controller}
 use Rattle.model.specs.declared.Answer.{Answer}
 use Rattle.model.specs.declared.Answer.the-variants.{ShortBuffer}
-use Rattle.model.proofs.Bool.{and-left, by-test}
+use Rattle.model.proofs.Bool.{by-test}
 use Rattle.model.proofs.Answers.{unrecorded, unrecorded-undenied}
 use Rattle.plans.specs.Plan.{Plan, Refused, Recorded, Blank, planStarted, planAnswered, planOf, performed}
 use Rattle.plans.proofs.ClosedFormProof.{closed-form}
@@ -43,9 +43,9 @@ module _ (c : Controller) (f : Flash) (o : Operation) (b : List ℕ) where
   recorded-left a d h = rw d
 
   -- a denied read is, and delivers ones,
-  blank-left : isRead o ≡ true → LeavesRefused (Blank (o .count))
+  blank-left : (a : Answer) → (isRead o && isDenied a) ≡ true → LeavesRefused (Blank a (o .count))
   unfolding LeavesRefused performed
-  blank-left r h = rw r
+  blank-left a d h = rw d
 
   -- and what starts is not refused.
   started-left : LeavesRefused (planStarted (c .setup .pages) o)
@@ -59,7 +59,7 @@ module _ (c : Controller) (f : Flash) (o : Operation) (b : List ℕ) where
       by-test (accepts (operationAnswer (c .setup) o)) (λ a. rw a started-left)
       (λ a. rw a (
       by-test (isRead o && isDenied (operationAnswer (c .setup) o))
-      (λ d. rw d (blank-left (and-left _ _ d)))
+      (λ d. rw d (blank-left (operationAnswer (c .setup) o) d))
       (λ d. rw d (recorded-left (operationAnswer (c .setup) o) d))))
 
   plan-left : LeavesRefused (planOf c f o b)

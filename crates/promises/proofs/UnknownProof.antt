@@ -27,8 +27,8 @@ use Rattle.model.proofs.Answers.{accepts-not}
 use Rattle.model.proofs.Flashes.{same-fits}
 use Rattle.model.proofs.StepLaws.{step-ready, step-unready, running-accepts}
 use Rattle.plans.proofs.Changes.{whole-answers}
-use Rattle.promises.specs.Calls.{Call, State, Reset, SetInputs, SetRegion, SetDefault, SetInfo, SetErase, Initialise, Start, Step, Push, Pop, Whole, HostRead, ViewPage, Clear, Rma, Round, byRound, perform}
-use Rattle.promises.specs.Refused.{leftBy, refusedReply}
+use Rattle.promises.specs.Calls.{Call, State, Reply, Reset, SetInputs, SetRegion, SetDefault, SetInfo, SetErase, Initialise, Start, Step, Push, Pop, Whole, HostRead, ViewPage, Clear, Rma, Round, byRound, perform}
+use Rattle.promises.specs.Refused.{leftBy, reportOf, refusedReply}
 use Rattle.promises.specs.Unknown.{stateOf, stepSide, Alike, RefusedUnknown, RefusedHostUnknown, BlankUnknown}
 use Rattle.promises.proofs.RefusedProof.{refused-moves-nothing}
 
@@ -98,34 +98,37 @@ module _ (c : Controller) (f g : Flash) (long : length (f .words) ≡ length (g 
   unfolding hostRead hostAnswer
   host-unknown a h = let n = accepts-not (hostAnswer c g a) (rw same-valid at h) in rw (same-valid, n)
 
--- What a refused call leaves and tells follows from its answer, but for the host's side of a round.
-side-told : (s u : State) (k : Call) (n : ℕ) → stepSide (refusedReply s k n) ≡ stepSide (refusedReply u k n)
-side-told s u (Reset d) n = refl
-side-told s u (SetInputs i) n = refl
-side-told s u (SetRegion k r) n = refl
-side-told s u (SetDefault r) n = refl
-side-told s u (SetInfo bank t page p) n = refl
-side-told s u (SetErase bank on) n = refl
-side-told s u Initialise n = refl
-side-told s u (Start o) n = refl
-side-told s u Step n = refl
-side-told s u (Push w) n = refl
-side-told s u Pop n = refl
-side-told s u (Whole o b) n = refl
-side-told s u (HostRead a) n = refl
-side-told s u (ViewPage p) n = refl
-side-told s u Clear n = refl
-side-told s u Rma n = refl
-side-told s u (Round h b) n = refl
+-- What a refused call leaves and tells follows from the controller and its answer, but for the host's side of a round.
+abbrev toldBy : State → Call → ℕ → Reply
+toldBy s k n = refusedReply s k n (reportOf s k n)
+
+side-told : (c : Controller) (f g : Flash) (k : Call) (n : ℕ) → stepSide (toldBy (stateOf c f) k n) ≡ stepSide (toldBy (stateOf c g) k n)
+side-told c f g (Reset d) n = refl
+side-told c f g (SetInputs i) n = refl
+side-told c f g (SetRegion k r) n = refl
+side-told c f g (SetDefault r) n = refl
+side-told c f g (SetInfo bank t page p) n = refl
+side-told c f g (SetErase bank on) n = refl
+side-told c f g Initialise n = refl
+side-told c f g (Start o) n = refl
+side-told c f g Step n = refl
+side-told c f g (Push w) n = refl
+side-told c f g Pop n = refl
+side-told c f g (Whole o b) n = refl
+side-told c f g (HostRead a) n = refl
+side-told c f g (ViewPage p) n = refl
+side-told c f g Clear n = refl
+side-told c f g Rma n = refl
+side-told c f g (Round h b) n = refl
 
 pub refused-unknown : RefusedUnknown
 refused-unknown c f g k long h =
     let same = same-answer c f g long k in
     let here = refused-moves-nothing (stateOf c f) k h in
     let there = refused-moves-nothing (stateOf c g) k (rw same at h) in
-    let alike = side-told (stateOf c f) (stateOf c g) k _ in
+    let alike = side-told c f g k _ in
     record {
-      reply = ap stepSide (here .reply ∙ ap (refusedReply (stateOf c f) k) same) ∙ (alike ∙ sym (ap stepSide (there .reply)));
+      reply = ap stepSide (here .reply ∙ ap (toldBy (stateOf c f) k) same) ∙ (alike ∙ sym (ap stepSide (there .reply)));
       controller = here .controller ∙ (ap (leftBy c k) same ∙ sym (there .controller));
     }
 

@@ -6,7 +6,7 @@ use mathlib.Core.List.{List, [], _∷_}
 use lib.ListN.{length}
 use Rattle.model.specs.State.{Flash, Leaves}
 pub use Rattle.model.specs.State.{State}
-use Rattle.model.specs.Refusals.{numberOf}
+use Rattle.model.specs.Refusals.{numberOf, noDecider, reported}
 use Rattle.model.specs.Errors.{clear}
 use Rattle.model.specs.Settings.{setInputs, setRegion, setDefault, setInfo, setErase}
 use Rattle.model.specs.Lifecycle.{reset, initialise, rma, noSeeds}
@@ -54,11 +54,13 @@ pub data Call : Type 0 where
   Rma : Call
   Round : HostRequest → Bool → Call
 
--- What a caller is told: the answer's number, and what comes with it (nothing, 0 or empty where a call has no such thing).
--- `buffer` is the lent buffer after a whole operation. Of a round, `answer`, `movement`, `bits` and `turn` are its step's, and
--- `host` is what the host is told.
+-- What a caller is told: the answer's number, the decider that the answer reports (255 if none), and what comes with it
+-- (nothing, 0 or empty where a call has no such thing).
+-- `buffer` is the lent buffer after a whole operation. Of a round, `answer`, `decider`, `movement`, `bits` and `turn` are its
+-- step's, and `host` is what the host is told: its answer, with what that reports, among it.
 pub record Reply : Type 0 where
   pub answer : ℕ
+  pub decider : ℕ
   pub movement : Movement
   pub bits : ℕ
   pub word : ℕ
@@ -73,12 +75,13 @@ pub record Performed : Type 0 where
   pub reply : Reply
 
 abbrev pub noView : View
-noView = record { number = 0; start = record { 0 = 0 }; words = [] }
+noView = record { number = 0; decider = noDecider; start = record { 0 = 0 }; words = [] }
 
--- A call that is no round asks neither side of one: its answer, movement, bits, word, seeds, view and buffer.
-abbrev pub plainly : ℕ → Movement → ℕ → ℕ → Seeds → View → List ℕ → Reply
-plainly n m bits w seeds v b = record {
+-- A call that is no round asks neither side of one: its answer, decider, movement, bits, word, seeds, view and buffer.
+abbrev pub plainly : ℕ → ℕ → Movement → ℕ → ℕ → Seeds → View → List ℕ → Reply
+plainly n by m bits w seeds v b = record {
   answer = n;
+  decider = by;
   movement = m;
   bits = bits;
   word = w;
@@ -93,6 +96,7 @@ plainly n m bits w seeds v b = record {
 abbrev pub withTurns : Reply → Turn → HostTurn → Reply
 withTurns r t h = record {
   answer = r .answer;
+  decider = r .decider;
   movement = r .movement;
   bits = r .bits;
   word = r .word;
@@ -103,48 +107,52 @@ withTurns r t h = record {
   host = h;
 }
 
--- Of a step, and of a call that tells its answer alone.
-abbrev pub toldStep : ℕ → Movement → ℕ → Reply
-toldStep n m bits = plainly n m bits 0 noSeeds noView []
+-- Of a step, and of a call that tells its answer alone, with what it reports.
+abbrev pub toldStep : ℕ → ℕ → Movement → ℕ → Reply
+toldStep n by m bits = plainly n by m bits 0 noSeeds noView []
 
-abbrev pub told : ℕ → Reply
-told n = toldStep n None 0
+abbrev pub told : ℕ → ℕ → Reply
+told n by = toldStep n by None 0
 
 abbrev pub byOutcome : Flash → Outcome → Performed
-byOutcome f r = record { state = record { controller = r .controller; flash = f }; reply = told (numberOf (r .answer)) }
+byOutcome f r = record {
+  state = record { controller = r .controller; flash = f };
+  reply = told (numberOf (r .answer)) (reported (r .answer));
+}
 
 abbrev pub byFetch : Flash → Fetched → Performed
 byFetch f r = record {
   state = record { controller = r .controller; flash = f };
-  reply = plainly (numberOf (r .answer)) None 0 (r .word) noSeeds noView [];
+  reply = plainly (numberOf (r .answer)) (reported (r .answer)) None 0 (r .word) noSeeds noView [];
 }
 
 abbrev pub byStep : Leaves Stepped → Performed
 byStep l = record {
   state = record { controller = l .result .controller; flash = l .flash };
-  reply = toldStep (numberOf (l .result .answer)) (l .result .movement) (l .result .bits);
+  reply = toldStep (numberOf (l .result .answer)) (reported (l .result .answer)) (l .result .movement) (l .result .bits);
 }
 
 abbrev pub byInitialise : Flash → Initialised → Performed
 byInitialise f r = record {
   state = record { controller = r .controller; flash = f };
-  reply = plainly (numberOf (r .answer)) None 0 0 (r .seeds) noView [];
+  reply = plainly (numberOf (r .answer)) (reported (r .answer)) None 0 0 (r .seeds) noView [];
 }
 
 abbrev pub byView : State → View → Performed
-byView s v = record { state = s; reply = plainly (v .number) None 0 0 noSeeds v [] }
+byView s v = record { state = s; reply = plainly (v .number) (v .decider) None 0 0 noSeeds v [] }
 
 abbrev pub byWhole : WholeLeaves → Performed
 byWhole l = record {
   state = record { controller = l .result .controller; flash = l .flash };
-  reply = plainly (numberOf (l .result .answer)) None (l .result .bits) 0 noSeeds noView (l .buffer);
+  reply = plainly (numberOf (l .result .answer)) (reported (l .result .answer)) None (l .result .bits) 0 noSeeds noView (l .buffer);
 }
 
 abbrev pub byRound : Leaves Rounded → Performed
 byRound l = record {
   state = record { controller = l .result .controller; flash = l .flash };
   reply =
-      withTurns (toldStep (numberOf (l .result .step .answer)) (l .result .step .movement) (l .result .step .bits))
+      withTurns
+      (toldStep (numberOf (l .result .step .answer)) (reported (l .result .step .answer)) (l .result .step .movement) (l .result .step .bits))
       (l .result .step .turn) (l .result .host);
 }
 

@@ -11,7 +11,7 @@ use Rattle.model.specs.Kinds.{isPageErase, isBankErase, programRight, eraseRigh
 use Rattle.model.specs.Places.{totalWords, placeOf}
 use Rattle.model.specs.State.{Flash, stored}
 pub use Rattle.model.specs.State.{wordsOf}
-use Rattle.model.specs.Rights.{grants, rightsOfPage}
+use Rattle.model.specs.Rights.{grants, rulingOfPage}
 use Rattle.model.specs.Lifecycle.{isWiped}
 use Rattle.model.specs.Valid.{valid}
 use Rattle.model.specs.declared.ImagePage.{ImagePage}
@@ -30,8 +30,8 @@ use Rattle.promises.specs.Calls.{Call, State, Shaped, Reset, SetInputs, 
 unfoldable pub protected : Setup → ImagePage → Bool
 protected s q =
     not (getD (s .settings .erase) (bankOfPage (s .pages) q) false)
-    && (not (grants (rightsOfPage s q) programRight)
-    && not (grants (rightsOfPage s q) eraseRight))
+    && (not (grants (rulingOfPage s q .rights) programRight)
+    && not (grants (rulingOfPage s q .rights) eraseRight))
 
 -- ---- any list of calls but RMA that leaves those settings alone
 
@@ -113,10 +113,10 @@ RisesByErase =
 
 -- The page may be erased: it has the erase right, or its bank's erase permission is on.
 unfoldable pub erasable : Setup → ImagePage → Bool
-erasable s q = getD (s .settings .erase) (bankOfPage (s .pages) q) false || grants (rightsOfPage s q) eraseRight
+erasable s q = getD (s .settings .erase) (bankOfPage (s .pages) q) false || grants (rulingOfPage s q .rights) eraseRight
 
 unfoldable pub programmable : Setup → ImagePage → Bool
-programmable s q = grants (rightsOfPage s q) programRight
+programmable s q = grants (rulingOfPage s q .rights) programRight
 
 -- The page may not be erased at any call of the list, and none of them is RMA: no bit of it rises.
 abbrev pub unerasedAlong : ImagePage → State → List Call → Bool

@@ -3,6 +3,7 @@
 pub mod Calls
 pub mod Validity
 pub mod Refused
+pub mod Named
 pub mod Confined
 pub mod Counted
 pub mod Unknown

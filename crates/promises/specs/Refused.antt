@@ -1,18 +1,20 @@
 -- A refused call moves no flash, and leaves the controller and its reply exactly as 01's table says.
 use Prim.Native.Nat.{ℕ}
 use mathlib.Core.Path.{_≡_}
-use mathlib.Core.Bool.{Bool, _&&_, cond}
+use mathlib.Core.Bool.{Bool, false, _&&_, cond}
 use mathlib.Core.List.{List, [], _++_}
 use lib.Dec.{eqb}
 use lib.ListN.{drop, replicate}
+use Rattle.model.specs.Geometry.{pageOf}
 use Rattle.model.specs.Words.{allOnes}
 use Rattle.model.specs.Kinds.{isRead}
 use Rattle.model.specs.Queue.{emptyQueue}
 use Rattle.model.specs.State.{withProgress, withQueues, withReads}
 use Rattle.model.specs.Errors.{withRecorded}
-use Rattle.model.specs.Refusals.{numberOf}
+use Rattle.model.specs.Rights.{rulingAt, deciderOf}
+use Rattle.model.specs.Refusals.{numberOf, deciderNumber, noDecider}
 use Rattle.model.specs.Lifecycle.{noSeeds}
-use Rattle.model.specs.Host.{hostRead}
+use Rattle.model.specs.Host.{View, hostRead}
 use Rattle.model.specs.Rounds.{hostUnserved, hostServed}
 use Rattle.model.specs.declared.Operation.{Operation}
 use Rattle.model.specs.declared.Work.the-variants.{Read}
@@ -66,31 +68,61 @@ abbrev pub hostTold : State → HostRequest → HostTurn
 hostTold s Nothing = hostUnserved Unasked
 hostTold s (Word a) = hostServed (hostRead (s .controller) (s .flash) a)
 
--- Any refusal gives its number and otherwise a word of 0, a bit count of 0, no seeds and an empty view; a whole operation's
--- comes with its buffer.
-abbrev pub refusedReply : State → Call → ℕ → Reply
-refusedReply s (Reset d) n = told n
-refusedReply s (SetInputs i) n = told n
-refusedReply s (SetRegion k g) n = told n
-refusedReply s (SetDefault r) n = told n
-refusedReply s (SetInfo bank t page p) n = told n
-refusedReply s (SetErase bank on) n = told n
-refusedReply s Initialise n = told n
-refusedReply s (Start o) n = told n
-refusedReply s Step n = told n
-refusedReply s (Push w) n = told n
-refusedReply s Pop n = told n
-refusedReply s (Whole o b) n = plainly n None 0 0 noSeeds noView (bufferBy o b n)
-refusedReply s (HostRead a) n = told n
-refusedReply s (ViewPage p) n = plainly n None 0 0 noSeeds (record { number = n; start = record { 0 = 0 }; words = [] }) []
-refusedReply s Clear n = told n
-refusedReply s Rma n = told n
-refusedReply s (Round h b) n = withTurns (told n) Served (hostTold s h)
+-- Who decides where a call is denied: of an operation who denies it, of a host read or view whoever decides its data page.
+-- No other call is denied. (02, L2)
+abbrev pub decidedBy : State → Call → ℕ
+decidedBy s (Reset d) = noDecider
+decidedBy s (SetInputs i) = noDecider
+decidedBy s (SetRegion k g) = noDecider
+decidedBy s (SetDefault r) = noDecider
+decidedBy s (SetInfo bank t page p) = noDecider
+decidedBy s (SetErase bank on) = noDecider
+decidedBy s Initialise = noDecider
+decidedBy s (Start o) = deciderNumber (deciderOf (s .controller .setup) o)
+decidedBy s Step = noDecider
+decidedBy s (Push w) = noDecider
+decidedBy s Pop = noDecider
+decidedBy s (Whole o b) = deciderNumber (deciderOf (s .controller .setup) o)
+decidedBy s (HostRead a) = deciderNumber (rulingAt (s .controller .setup) false 0 (pageOf a) .decider)
+decidedBy s (ViewPage p) = deciderNumber (rulingAt (s .controller .setup) false 0 p .decider)
+decidedBy s Clear = noDecider
+decidedBy s Rma = noDecider
+decidedBy s (Round h b) = noDecider
+
+-- 'Refusal 9 reports it'; any other answer n reports none.
+abbrev pub reportOf : State → Call → ℕ → ℕ
+reportOf s k n = cond (eqb n 9) (decidedBy s k) noDecider
+
+-- A refused view is empty, and starts where the image does.
+abbrev pub refusedView : ℕ → ℕ → View
+refusedView n by = record { number = n; decider = by; start = record { 0 = 0 }; words = [] }
+
+-- Any refusal gives its number n, the decider that it reports, and otherwise a word of 0, a bit count of 0, no seeds and an
+-- empty view; a whole operation's comes with its buffer.
+abbrev pub refusedReply : State → Call → ℕ → ℕ → Reply
+refusedReply s (Reset d) n by = told n by
+refusedReply s (SetInputs i) n by = told n by
+refusedReply s (SetRegion k g) n by = told n by
+refusedReply s (SetDefault r) n by = told n by
+refusedReply s (SetInfo bank t page p) n by = told n by
+refusedReply s (SetErase bank on) n by = told n by
+refusedReply s Initialise n by = told n by
+refusedReply s (Start o) n by = told n by
+refusedReply s Step n by = told n by
+refusedReply s (Push w) n by = told n by
+refusedReply s Pop n by = told n by
+refusedReply s (Whole o b) n by = plainly n by None 0 0 noSeeds noView (bufferBy o b n)
+refusedReply s (HostRead a) n by = told n by
+refusedReply s (ViewPage p) n by = plainly n by None 0 0 noSeeds (refusedView n by) []
+refusedReply s Clear n by = told n by
+refusedReply s Rma n by = told n by
+refusedReply s (Round h b) n by = withTurns (told n by) Served (hostTold s h)
 
 pub record Leaves (s : State) (k : Call) : Type 0 where
   pub flash : perform s k .state .flash ≡ s .flash
   pub controller : perform s k .state .controller ≡ leftBy (s .controller) k (perform s k .reply .answer)
-  pub reply : perform s k .reply ≡ refusedReply s k (perform s k .reply .answer)
+  pub reply : perform s k .reply
+      ≡ refusedReply s k (perform s k .reply .answer) (reportOf s k (perform s k .reply .answer))
 
 abbrev pub RefusedMovesNothing : Type 0
 RefusedMovesNothing = (s : State) (k : Call) → (perform s k .reply .answer ≡ 0 → ⊥) → Leaves s k

@@ -1,11 +1,13 @@
-// Answers by number, chains of checks (the first that applies answers), and the error record.
+// Answers by number and what they report, chains of checks (the first that applies answers), and the error record.
 ghost use mathlib.Core.Path.{_≡_};
 ghost use Rattle.model.specs.Errors.{isRecorded, recorded};
-ghost use Rattle.model.specs.Refusals.{numberOf, accepts, isDenied, check, orElse, phaseAnswer, readyAnswer};
+ghost use Rattle.model.specs.Refusals.{numberOf, deciderNumber, reported, accepts, isDenied, check, orElse, phaseAnswer, readyAnswer};
 ghost use Rattle.model.specs.State.{isReady, isBusy, noErrors};
 use model::Answer;
 use model::ByteAddress;
+use model::Decider;
 use model::Errors;
+use model::NO_DECIDER;
 use model::Phase;
 use model::Progress;
 
@@ -23,11 +25,46 @@ pub fn number_of(a: Answer) -> u8
         Answer::ShortBuffer => 6,
         Answer::OutOfRange => 7,
         Answer::CrossesWindow => 8,
-        Answer::Denied => 9,
+        Answer::Denied(_) => 9,
         Answer::QueueEmpty => 10,
         Answer::QueueFull => 11,
         Answer::Unexpected => 12,
         Answer::BadSetting => 13,
+    }
+}
+
+// The decider's number: a region's own, then the others.
+pub fn decider_number(d: Decider) -> u8
+    ensures { λ r. ⌜ r ≡ deciderNumber d ⌝ }
+{
+    match d {
+        Decider::Region(i) => i,
+        Decider::Default => 8,
+        Decider::PageSetting => 9,
+        Decider::SeedLock => 10,
+        Decider::BankPermission => 11,
+    }
+}
+
+// Refusal 9 reports who decided, every other answer nobody.
+pub fn reported(a: Answer) -> u8
+    ensures { λ r. ⌜ r ≡ reported a ⌝ }
+{
+    match a {
+        Answer::Accepted => NO_DECIDER,
+        Answer::Invalid => NO_DECIDER,
+        Answer::Disabled => NO_DECIDER,
+        Answer::Uninitialised => NO_DECIDER,
+        Answer::Busy => NO_DECIDER,
+        Answer::Malformed => NO_DECIDER,
+        Answer::ShortBuffer => NO_DECIDER,
+        Answer::OutOfRange => NO_DECIDER,
+        Answer::CrossesWindow => NO_DECIDER,
+        Answer::Denied(by) => decider_number(by),
+        Answer::QueueEmpty => NO_DECIDER,
+        Answer::QueueFull => NO_DECIDER,
+        Answer::Unexpected => NO_DECIDER,
+        Answer::BadSetting => NO_DECIDER,
     }
 }
 

@@ -4,21 +4,22 @@ use mathlib.Core.Path.{_≡_}
 use mathlib.Core.Bool.{true}
 use mathlib.Core.List.{List}
 use Rattle.model.specs.State.{Flash}
+use Rattle.model.specs.Refusals.{noDecider}
 use Rattle.model.specs.Rounds.{wouldMove, nextBank}
 use Rattle.registers.specs.Registers.{decode}
-use Rattle.calls.specs.declared.ToldWord.{ToldWord}
+use Rattle.calls.specs.declared.ToldHostWord.{ToldHostWord}
 use Rattle.calls.specs.declared.ToldStep.{ToldStep}
 use Rattle.calls.specs.declared.ToldHostTurn.{ToldHostTurn}
 use Rattle.calls.specs.declared.ToldStepTurn.{ToldStepTurn}
 
 abbrev pub unservedHost : ℕ → ToldHostTurn
-unservedHost turn = record { turn = turn; answer = 0; word = 0 }
+unservedHost turn = record { turn = turn; answer = 0; decider = noDecider; word = 0 }
 
 abbrev pub unservedStep : ℕ → ℕ → ToldStepTurn
 unservedStep turn movement = record { turn = turn; answer = 0; movement = movement; bits = 0 }
 
-abbrev pub servedHost : ToldWord → ToldHostTurn
-servedHost t = record { turn = 2; answer = t .answer; word = t .word }
+abbrev pub servedHost : ToldHostWord → ToldHostTurn
+servedHost t = record { turn = 2; answer = t .answer; decider = t .decider; word = t .word }
 
 abbrev pub servedStep : ToldStep → ToldStepTurn
 servedStep t = record { turn = 2; answer = t .answer; movement = t .movement; bits = t .bits }

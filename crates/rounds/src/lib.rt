@@ -12,13 +12,14 @@ ghost use Rattle.registers.specs.Registers.{decode};
 ghost use Rattle.calls.specs.Calls.{roundLeft, roundIn};
 ghost use Rattle.rounds.specs.Turns.{Going, Contested, unservedHost, unservedStep, servedHost, servedStep};
 use calls::ToldHostTurn;
+use calls::ToldHostWord;
 use calls::ToldRound;
 use calls::ToldStep;
 use calls::ToldStepTurn;
-use calls::ToldWord;
 use model::ByteAddress;
 use model::HostRequest;
 use model::LOST_LIMIT;
+use model::NO_DECIDER;
 use model::Progress;
 use registers::Registers;
 
@@ -70,6 +71,7 @@ fn host_unserved(turn: u32) -> ToldHostTurn
     ToldHostTurn {
         turn,
         answer: 0,
+        decider: NO_DECIDER as u32,
         word: 0,
     }
 }
@@ -85,12 +87,13 @@ fn step_unserved(turn: u32, movement: u32) -> ToldStepTurn
     }
 }
 
-fn host_served(told: ToldWord) -> ToldHostTurn
+fn host_served(told: ToldHostWord) -> ToldHostTurn
     ensures { λ r. ⌜ r ≡ servedHost told ⌝ }
 {
     ToldHostTurn {
         turn: 2,
         answer: told.answer,
+        decider: told.decider,
         word: told.word,
     }
 }

@@ -1,5 +1,6 @@
 -- Demand 3 is no empty promise: two lists that both change pages, with a page that both read, a refused operation and a read
--- that is blank on a page that the other list programs; and two shuffles of them whose last error addresses differ.
+-- that is blank on a page that the other list programs, and reports who denies it alone as in a shuffle; and two shuffles of
+-- them whose last error addresses differ.
 use Prim.Native.Nat.{ℕ}
 use mathlib.Core.Path.{_≡_, refl, ap, _∙_}
 use mathlib.Core.Bool.{Bool, true, false}
@@ -9,8 +10,8 @@ use Rattle.model.specs.Words.{allOnes, programmed}
 use Rattle.model.specs.Places.{totalWords, placeOf}
 use Rattle.model.specs.Queue.{queueOf}
 use Rattle.model.specs.State.{stored, flashFits, resetController}
-use Rattle.model.specs.Refusals.{accepts}
-use Rattle.model.specs.Rights.{dataRights, rightsAt, leading, allowedWords, denied}
+use Rattle.model.specs.Refusals.{noDecider, accepts}
+use Rattle.model.specs.Rights.{dataRuling, rulingAt, leading, allowedWords, denied, deciderOf}
 use Rattle.model.specs.Checks.{malformed, outOfRange, crossesWindow, operationAnswer}
 use Rattle.model.specs.Valid.{settingsFit, runningFits, physicalFits, valid, validWith}
 use Rattle.model.specs.Errors.{recorded}
@@ -20,19 +21,21 @@ use Rattle.model.specs.Whole.{wholeAnswer}
 use Rattle.model.specs.Bench.{blank, ready, region, op}
 use Rattle.model.specs.declared.ImagePage.{ImagePage}
 use Rattle.model.specs.declared.Errors.{Errors}
-use Rattle.model.specs.declared.Answer.the-variants.{Malformed}
+use Rattle.model.specs.declared.Answer.the-variants.{Malformed, Denied}
+use Rattle.model.specs.declared.Decider.the-variants.{Region}
 use Rattle.plans.specs.Plan.{Recorded, Blank, placesOf, planOf, performed}
 use Rattle.shuffles.specs.Shuffle.{Job, State, Given, after, given, endOf, Shuffle, done, left, right, readsPage, changesPage, planAt, along, changes, Apart, Commutes}
-use Rattle.shuffles.proofs.Commute.{some}
-use Rattle.shuffles.proofs.Demand3.{like-itself, leavesAt, after-is, given-is, stays, demand3, all-alike}
+use Rattle.shuffles.proofs.Views.{kindsBy}
+use Rattle.shuffles.proofs.Commute.{some, here-end}
+use Rattle.shuffles.proofs.Demand3.{Like, like-itself, leavesAt, after-is, given-is, stays, plan-like, laws, demand3, all-alike}
 use Rattle.shuffles.proofs.Decided.{along-start, spared, apartTest, apart-by, errorsBy, errors-end}
 
--- Reset with D = 10, all rights by default but only program on page 0, initialised; an erased image of 11,776 words.
+-- Reset with D = 10, all rights by default but only program on page 0, by region 3, initialised; an erased image of 11,776 words.
 abbrev start : State
 start = record {
   controller =
       ready 11776
-      (setRegion (setDefault (reset (resetController 0) 10 .controller) 7 .controller) 0 (region true 0 1 2) .controller);
+      (setRegion (setDefault (reset (resetController 0) 10 .controller) 7 .controller) 3 (region true 0 1 2) .controller);
   flash = blank 11776;
 }
 
@@ -80,7 +83,7 @@ page q = record { 0 = q }
 record Computed : Type 0 where
   begins : accepts (wholeAnswer (start .controller) (start .flash)) ≡ true
   refused : planAt start nonsense ≡ Recorded Malformed
-  blank-read : planAt start blindly ≡ Blank 1
+  blank-read : planAt start blindly ≡ Blank (Denied (Region 3)) 1
   apart : apartTest start xs ys ≡ true
   programs-word : stored (leavesAt start programs .flash) (record { 0 = 0 }) ≡ 0x12345678
   others-spare : some (planAt start) changesPage (erases ∷ reads ∷ reads ∷ blindly ∷ nonsense ∷ []) (page 0) ≡ false
@@ -93,7 +96,7 @@ record Computed : Type 0 where
 
 -- By computation.
 computed : Computed
-unfolding programmed performed imagePage wordAt totalWords placeOf queueOf dataRights rightsAt leading allowedWords denied malformed outOfRange crossesWindow operationAnswer settingsFit runningFits physicalFits valid flashFits validWith recorded setDefault configured setRegion reset initialiseAnswer initialise wholeAnswer placesOf planOf
+unfolding programmed performed imagePage wordAt totalWords placeOf queueOf dataRuling rulingAt leading allowedWords denied deciderOf malformed outOfRange crossesWindow operationAnswer settingsFit runningFits physicalFits valid flashFits validWith recorded setDefault configured setRegion reset initialiseAnswer initialise wholeAnswer placesOf planOf
 computed = record {
   begins = refl;
   refused = refl;
@@ -109,13 +112,17 @@ computed = record {
   other-last = refl;
 }
 
+-- What the blank read gives.
+abbrev blindlyGiven : Given
+blindlyGiven = record { answer = 9; decider = 3; words = allOnes ∷ []; bits = 0 }
+
 -- So of the lists and the shuffles themselves:
 pub record Applied : Type 0 where
   -- checks 1 to 4 pass at the start: valid, ready, nothing in progress, empty queues;
   pub begins : accepts (wholeAnswer (start .controller) (start .flash)) ≡ true
-  -- the first list has an operation that is refused with 5, the second a blank read;
-  pub refused : given start nonsense .answer ≡ 5
-  pub blank-read : given start blindly ≡ record { answer = 9; words = allOnes ∷ []; bits = 0 }
+  -- the first list has an operation that is refused with 5, the second a blank read, which region 3 denies;
+  pub refused : given start nonsense ≡ record { answer = 5; decider = noDecider; words = []; bits = 0 }
+  pub blank-alone : given (endOf start (erases ∷ reads ∷ [])) blindly ≡ blindlyGiven
   -- both lists change a page, and both read page 2,
   pub first-changes : changes start xs (page 0) ≡ true
   pub second-changes : changes start ys (page 1) ≡ true
@@ -127,6 +134,8 @@ pub record Applied : Type 0 where
   pub one-commutes : Commutes start oneWay xs ys one
   pub other-commutes : Commutes start otherWay xs ys other
   pub alike : endOf start one .flash ≡ endOf start other .flash
+  -- the blank read gives in the shuffle what it gives alone, and so reports the same,
+  pub blank-shuffled : given (endOf start (erases ∷ programs ∷ reads ∷ nonsense ∷ reads ∷ [])) blindly ≡ blindlyGiven
   -- the word that was programmed first is there at the end,
   pub landed : stored (endOf start one .flash) (record { 0 = 0 }) ≡ 0x12345678
   -- and the addresses of their last errors differ.
@@ -138,8 +147,8 @@ pub applied : Applied
 unfolding performed
 applied = record {
   begins = computed .begins;
-  refused = ap (λ (g : Given). g .answer) (given-is start nonsense) ∙ rw (computed .refused);
-  blank-read = given-is start blindly ∙ rw (computed .blank-read);
+  refused = given-is start nonsense ∙ rw (computed .refused);
+  blank-alone = blank-after (erases ∷ reads ∷ []);
   first-changes = along-start start changesPage xs (page 0) ∙ computed .first-changes;
   second-changes = along-start start changesPage ys (page 1) ∙ computed .second-changes;
   first-reads = along-start start readsPage xs (page 2) ∙ computed .first-reads;
@@ -148,6 +157,7 @@ applied = record {
   one-commutes = demand3 start oneWay xs ys one apart one-way;
   other-commutes = demand3 start otherWay xs ys other apart other-way;
   alike = all-alike start oneWay otherWay xs ys one other apart one-way other-way .0;
+  blank-shuffled = blank-after (erases ∷ programs ∷ reads ∷ nonsense ∷ reads ∷ []);
   landed = landed;
   one-last = last one ∙ computed .one-last;
   other-last = last other ∙ computed .other-last;
@@ -161,6 +171,12 @@ applied = record {
 
     other-way : Shuffle otherWay xs ys other
     other-way = right (left (left (left (right (right done)))))
+
+    blank-after : (js : List Job) → given (endOf start js) blindly ≡ blindlyGiven
+    blank-after js =
+        let s : State = endOf start js in
+        let like : Like start s = here-end (Like start) 11776 (planAt start) kindsBy (laws start) start js (like-itself start) in
+        given-is s blindly ∙ rw (plan-like start s blindly like, computed .blank-read)
 
     landed : stored (endOf start one .flash) (record { 0 = 0 }) ≡ 0x12345678
     landed =

@@ -35,7 +35,7 @@ some plan does (j ∷ js) q = does (plan j) q || some plan does js q
 
 module _ (Here : State → Type 0) (n : ℕ) (plan : Job → Plan) (adds : Plan → Kinds) (laws : Laws Here n plan adds) where
   -- A list stays there,
-  here-end : (s : State) (js : List Job) → Here s → Here (endOf s js)
+  pub here-end : (s : State) (js : List Job) → Here s → Here (endOf s js)
   here-end s [] h = h
   here-end s (j ∷ js) h = here-end (after s j) js (laws .stays s j h)
 

@@ -5,8 +5,8 @@ use Rattle.model.specs.Whole.{WholeLeaves}
 use Rattle.model.specs.declared.Controller.{Controller}
 use Rattle.plans.specs.Plan.{performed}
 use Rattle.plans.proofs.ClosedFormProof.{closed-form}
-use Rattle.shuffles.specs.Shuffle.{Job, State, after, given, planAt, Demand3, AllAlike}
-use Rattle.shuffles.proofs.Places.{givenOf, plan-long, plan-off, plan-same}
+use Rattle.shuffles.specs.Shuffle.{Job, State, after, givenOf, given, planAt, Demand3, AllAlike}
+use Rattle.shuffles.proofs.Places.{plan-long, plan-off, plan-same}
 use Rattle.shuffles.proofs.Views.{viewOf, same-plan, plan-controller, errorsAfter, view-stays, kindsBy, kinds-after}
 use Rattle.shuffles.proofs.Commute.{Laws, commutes, one-end}
 

@@ -11,9 +11,8 @@ use borrow.Author.Tests.{eqb-false, eq-eqb}
 use Rattle.model.specs.Geometry.{imagePageOf}
 use Rattle.model.specs.Words.{changedBits}
 use Rattle.model.specs.State.{Flash, stored, withWord}
-use Rattle.model.specs.Refusals.{numberOf}
+use Rattle.model.specs.Refusals.{noDecider}
 use Rattle.model.specs.Steps.{delivered, countedBits}
-use Rattle.model.specs.Whole.{WholeLeaves}
 use Rattle.model.specs.declared.ImagePage.{ImagePage}
 use Rattle.model.specs.declared.BusWord.{BusWord}
 use Rattle.model.specs.declared.Operation.{Operation}
@@ -21,7 +20,7 @@ use Rattle.model.specs.declared.Setup.{Setup}
 use Rattle.model.specs.declared.Controller.{Controller}
 use Rattle.model.proofs.Bool.{or-left, or-right}
 use Rattle.plans.specs.Plan.{Plan, Refused, Recorded, Blank, Reads, Programs, Erases, deliveredAt, stored-all, changed-all, programming, erasing, performed}
-use Rattle.shuffles.specs.Shuffle.{Given, hasOne, changesPage, touchesPage}
+use Rattle.shuffles.specs.Shuffle.{givenOf, hasOne, changesPage, touchesPage}
 use Rattle.shuffles.proofs.Pages.{Off, Agree, AsLong, same-set}
 
 -- ---- words stored at places
@@ -79,16 +78,12 @@ stored-same P new k (p ∷ ps) s t f g e h a =
 
 -- ---- a plan, performed
 
--- What a whole operation gives, of what it leaves.
-abbrev pub givenOf : WholeLeaves → Given
-givenOf w = record { answer = numberOf (w .result .answer); words = w .buffer; bits = w .result .bits }
-
 -- The image keeps its length,
 pub plan-long : (c : Controller) (f : Flash) (o : Operation) (b : List ℕ) (p : Plan) → AsLong (performed c f o b p .flash) f
 unfolding performed
 plan-long c f o b (Refused a) = refl
 plan-long c f o b (Recorded a) = refl
-plan-long c f o b (Blank n) = refl
+plan-long c f o b (Blank a n) = refl
 plan-long c f o b (Reads ps) = refl
 plan-long c f o b (Programs ps) = stored-long (programming b) 0 ps f
 plan-long c f o b (Erases ps) = stored-long erasing 0 ps f
@@ -98,7 +93,7 @@ pub plan-off : (c : Controller) (f : Flash) (o : Operation) (b : List ℕ) (p : 
 unfolding performed
 plan-off c f o b (Refused a) w h = refl
 plan-off c f o b (Recorded a) w h = refl
-plan-off c f o b (Blank n) w h = refl
+plan-off c f o b (Blank a n) w h = refl
 plan-off c f o b (Reads ps) w h = refl
 plan-off c f o b (Programs ps) w h = stored-off (programming b) 0 ps f w h
 plan-off c f o b (Erases ps) w h = stored-off erasing 0 ps f w h
@@ -114,15 +109,15 @@ pub plan-same : (c d : Controller) (f g : Flash) (o : Operation) (b : List ℕ) 
 unfolding performed
 plan-same c d f g o b (Refused a) e h = (refl, on-none f g)
 plan-same c d f g o b (Recorded a) e h = (refl, on-none f g)
-plan-same c d f g o b (Blank n) e h = (refl, on-none f g)
+plan-same c d f g o b (Blank a n) e h = (refl, on-none f g)
 plan-same c d f g o b (Reads ps) e h = (
-  ap (λ (ws : List ℕ). record { answer = 0; words = ws ++ drop (length ps) b; bits = 0 })
+  ap (λ (ws : List ℕ). record { answer = 0; decider = noDecider; words = ws ++ drop (length ps) b; bits = 0 })
       (delivered-same (hasOne ps) ps f g (λ q t. t) (λ w t. h w (ap (λ (x : Bool). x || false) t))),
   on-none f g,
 )
 plan-same c d f g o b (Programs ps) e h =
     let t = stored-same (hasOne ps) (programming b) 0 ps (c .setup) (d .setup) f g e (λ q t. t) h in
-    (ap (λ (n : ℕ). record { answer = 0; words = b; bits = n }) (t .0), t .1)
+    (ap (λ (n : ℕ). record { answer = 0; decider = noDecider; words = b; bits = n }) (t .0), t .1)
 plan-same c d f g o b (Erases ps) e h =
     let t = stored-same (hasOne ps) erasing 0 ps (c .setup) (d .setup) f g e (λ q t. t) h in
-    (ap (λ (n : ℕ). record { answer = 0; words = b; bits = n }) (t .0), t .1)
+    (ap (λ (n : ℕ). record { answer = 0; decider = noDecider; words = b; bits = n }) (t .0), t .1)

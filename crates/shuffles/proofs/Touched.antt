@@ -11,7 +11,7 @@ use Rattle.model.specs.Geometry.{imagePageOf}
 use Rattle.model.specs.Kinds.{isRead, isProgram}
 use Rattle.model.specs.Places.{totalWords, placeOf}
 use Rattle.model.specs.State.{Flash}
-use Rattle.model.specs.Refusals.{numberOf, accepts, isDenied}
+use Rattle.model.specs.Refusals.{numberOf, noDecider, accepts, isDenied}
 use Rattle.model.specs.Checks.{operationAnswer}
 use Rattle.model.specs.Valid.{validWith}
 use Rattle.model.specs.Whole.{wholeAnswer, shortBuffer, whole}
@@ -57,7 +57,7 @@ refused-none : (c : Controller) (f : Flash) (o : Operation) (b : List ℕ) (p : 
 unfolding performed
 refused-none c f o b (Refused a) q h = refl
 refused-none c f o b (Recorded a) q h = refl
-refused-none c f o b (Blank n) q h = refl
+refused-none c f o b (Blank a n) q h = refl
 refused-none c f o b (Reads ps) q h = absurd (h refl)
 refused-none c f o b (Programs ps) q h = absurd (h refl)
 refused-none c f o b (Erases ps) q h = absurd (h refl)
@@ -68,7 +68,7 @@ answered-started : (c : Controller) (f : Flash) (d : ℕ) (o : Operation) (b : L
 unfolding performed
 answered-started c f d o b a h =
     by-test (accepts a) (λ e. rw e)
-    (λ e. absurd (by-test (isRead o && isDenied a) (λ t. suc-ne-zero 8 (rw (e, t) at h)) (λ t. eqb-false _ _ e (rw (e, t) at h))))
+    (λ e. absurd (by-test (isRead o && isDenied a) (λ t. eqb-false _ _ e (rw (e, t) at h)) (λ t. eqb-false _ _ e (rw (e, t) at h))))
 
 -- and so did checks 1 to 4 and 6.
 accepted-started : (c : Controller) (f : Flash) (o : Operation) (b : List ℕ)
@@ -119,7 +119,7 @@ footprints = right-pages
 abbrev pub changedPlaces : Plan → List BusWord
 changedPlaces (Refused a) = []
 changedPlaces (Recorded a) = []
-changedPlaces (Blank n) = []
+changedPlaces (Blank a n) = []
 changedPlaces (Reads ps) = []
 changedPlaces (Programs ps) = ps
 changedPlaces (Erases ps) = ps
@@ -128,7 +128,7 @@ changedPlaces (Erases ps) = ps
 abbrev pub touchedPlaces : Plan → List BusWord
 touchedPlaces (Refused a) = []
 touchedPlaces (Recorded a) = []
-touchedPlaces (Blank n) = []
+touchedPlaces (Blank a n) = []
 touchedPlaces (Reads ps) = ps
 touchedPlaces (Programs ps) = ps
 touchedPlaces (Erases ps) = ps
@@ -137,7 +137,7 @@ touchedPlaces (Erases ps) = ps
 pub changed-pages : (p : Plan) (q : ImagePage) → changesPage p q ≡ hasOne (changedPlaces p) q
 changed-pages (Refused a) q = refl
 changed-pages (Recorded a) q = refl
-changed-pages (Blank n) q = refl
+changed-pages (Blank a n) q = refl
 changed-pages (Reads ps) q = refl
 changed-pages (Programs ps) q = refl
 changed-pages (Erases ps) q = refl
@@ -146,7 +146,7 @@ changed-pages (Erases ps) q = refl
 pub touched-pages : (p : Plan) (q : ImagePage) → touchesPage p q ≡ hasOne (touchedPlaces p) q
 touched-pages (Refused a) q = refl
 touched-pages (Recorded a) q = refl
-touched-pages (Blank n) q = refl
+touched-pages (Blank a n) q = refl
 touched-pages (Reads ps) q = or-false (hasOne ps q)
 touched-pages (Programs ps) q = refl
 touched-pages (Erases ps) q = refl
@@ -155,7 +155,7 @@ touched-pages (Erases ps) q = refl
 
 -- One operation gives 1 and leaves all as it was,
 invalid-given : (s : State) (j : Job) → validWith (s .controller) (s .flash) ≡ false
-    → (given s j ≡ record { answer = 1; words = j .buffer; bits = 0 }) × (after s j ≡ s)
+    → (given s j ≡ record { answer = 1; decider = noDecider; words = j .buffer; bits = 0 }) × (after s j ≡ s)
 unfolding given after whole wholeAnswer
 invalid-given s j h = rw h (refl, refl)
 

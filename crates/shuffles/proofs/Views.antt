@@ -18,7 +18,6 @@ use Rattle.model.specs.declared.Operation.{Operation}
 use Rattle.model.specs.declared.Setup.{Setup}
 use Rattle.model.specs.declared.Controller.{Controller}
 use Rattle.model.specs.declared.Answer.{Answer}
-use Rattle.model.specs.declared.Answer.the-variants.{Denied}
 use Rattle.model.proofs.Bool.{and-left, and-right, or-left, or-right, by-test}
 use Rattle.model.proofs.Flashes.{same-fits}
 use Rattle.model.proofs.Valid.{valid-parts}
@@ -59,7 +58,7 @@ refused-plan c f o b h = rw h
 abbrev pub queuesAfter : Plan → Queues → Queues
 queuesAfter (Refused a) q = q
 queuesAfter (Recorded a) q = q
-queuesAfter (Blank n) q = withReads q emptyQueue
+queuesAfter (Blank a n) q = withReads q emptyQueue
 queuesAfter (Reads ps) q = withReads q emptyQueue
 queuesAfter (Programs ps) q = withPrograms q emptyQueue
 queuesAfter (Erases ps) q = q
@@ -68,7 +67,7 @@ queuesAfter (Erases ps) q = q
 abbrev pub errorsAfter : Plan → ByteAddress → Errors → Errors
 errorsAfter (Refused a) at e = e
 errorsAfter (Recorded a) at e = recorded (numberOf a) at e
-errorsAfter (Blank n) at e = recorded (numberOf Denied) at e
+errorsAfter (Blank a n) at e = recorded (numberOf a) at e
 errorsAfter (Reads ps) at e = e
 errorsAfter (Programs ps) at e = e
 errorsAfter (Erases ps) at e = e
@@ -80,7 +79,7 @@ pub plan-controller : (c : Controller) (f : Flash) (o : Operation) (b : List ℕ
 unfolding performed
 plan-controller c f o b (Refused a) = refl
 plan-controller c f o b (Recorded a) = refl
-plan-controller c f o b (Blank n) = refl
+plan-controller c f o b (Blank a n) = refl
 plan-controller c f o b (Reads ps) = refl
 plan-controller c f o b (Programs ps) = refl
 plan-controller c f o b (Erases ps) = refl
@@ -90,7 +89,7 @@ queues-empty : (p : Plan) (q : Queues) → bothEmpty q ≡ true → bothEmpty (q
 unfolding queueOf
 queues-empty (Refused a) q h = h
 queues-empty (Recorded a) q h = h
-queues-empty (Blank n) q h = and-right (isEmpty (q .reads)) _ h
+queues-empty (Blank a n) q h = and-right (isEmpty (q .reads)) _ h
 queues-empty (Reads ps) q h = and-right (isEmpty (q .reads)) _ h
 queues-empty (Programs ps) q h = rw (and-left (isEmpty (q .reads)) _ h)
 queues-empty (Erases ps) q h = h
@@ -99,7 +98,7 @@ queues-empty (Erases ps) q h = h
 errors-fit : (p : Plan) (at : ByteAddress) (e : Errors) → errorsFit e ≡ true → errorsFit (errorsAfter p at e) ≡ true
 errors-fit (Refused a) at e h = h
 errors-fit (Recorded a) at e h = recorded-fits (numberOf a) at e h
-errors-fit (Blank n) at e h = recorded-fits (numberOf Denied) at e h
+errors-fit (Blank a n) at e h = recorded-fits (numberOf a) at e h
 errors-fit (Reads ps) at e h = h
 errors-fit (Programs ps) at e h = h
 errors-fit (Erases ps) at e h = h
@@ -156,7 +155,7 @@ kindIs a = record {
 abbrev pub kindsBy : Plan → Kinds
 kindsBy (Refused a) = noKinds
 kindsBy (Recorded a) = kindIs a
-kindsBy (Blank n) = kindIs Denied
+kindsBy (Blank a n) = kindIs a
 kindsBy (Reads ps) = noKinds
 kindsBy (Programs ps) = noKinds
 kindsBy (Erases ps) = noKinds
@@ -180,7 +179,7 @@ kind-joins a at e = by-test (isRecorded (numberOf a)) (λ t. rw t) other
 pub kinds-after : (p : Plan) (at : ByteAddress) (e : Errors) → kindsIn (errorsAfter p at e) ≡ union (kindsIn e) (kindsBy p)
 kinds-after (Refused a) at e = union-none (kindsIn e)
 kinds-after (Recorded a) at e = kind-joins a at e
-kinds-after (Blank n) at e = kind-joins Denied at e
+kinds-after (Blank a n) at e = kind-joins a at e
 kinds-after (Reads ps) at e = union-none (kindsIn e)
 kinds-after (Programs ps) at e = union-none (kindsIn e)
 kinds-after (Erases ps) at e = union-none (kindsIn e)

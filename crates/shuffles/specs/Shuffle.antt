@@ -9,7 +9,7 @@ use Rattle.model.specs.Geometry.{imagePageOf}
 use Rattle.model.specs.Kinds.{isRead}
 use Rattle.model.specs.Places.{totalWords, placeOf}
 pub use Rattle.model.specs.State.{State, wordsOf}
-use Rattle.model.specs.Refusals.{numberOf}
+use Rattle.model.specs.Refusals.{numberOf, noDecider, reported}
 use Rattle.model.specs.Valid.{validWith}
 use Rattle.model.specs.Whole.{WholeLeaves, whole}
 use Rattle.model.specs.declared.ImagePage.{ImagePage}
@@ -34,18 +34,24 @@ wholeOf s j = whole (s .controller) (s .flash) (j .operation) (j .buffer)
 unfoldable pub after : State → Job → State
 after s j = record { controller = wholeOf s j .result .controller; flash = wholeOf s j .flash }
 
--- 'Its answer is none or a refusal' (0 or the refusal's number); 'its words are the whole buffer after it'; the bit count.
+-- 'Its answer is none or a refusal with whatever that reports' (0 or the refusal's number; refusal 9 reports who decided, any
+-- other answer none); 'its words are the whole buffer after it'; the bit count.
 pub record Given : Type 0 where
   pub answer : ℕ
+  pub decider : ℕ
   pub words : List ℕ
   pub bits : ℕ
 
-unfoldable pub given : State → Job → Given
-given s j = record {
-  answer = numberOf (wholeOf s j .result .answer);
-  words = wholeOf s j .buffer;
-  bits = wholeOf s j .result .bits;
+abbrev pub givenOf : WholeLeaves → Given
+givenOf w = record {
+  answer = numberOf (w .result .answer);
+  decider = reported (w .result .answer);
+  words = w .buffer;
+  bits = w .result .bits;
 }
+
+unfoldable pub given : State → Job → Given
+given s j = givenOf (wholeOf s j)
 
 -- A list of operations: what each gives, and the controller and flash at the end.
 abbrev pub allGiven : State → List Job → List Given
@@ -76,7 +82,7 @@ hasOne (p ∷ ps) q = eqb (imagePageOf p .0) (q .0) || hasOne ps q
 abbrev pub readsPage : Plan → ImagePage → Bool
 readsPage (Refused a) q = false
 readsPage (Recorded a) q = false
-readsPage (Blank n) q = false
+readsPage (Blank a n) q = false
 readsPage (Reads ps) q = hasOne ps q
 readsPage (Programs ps) q = false
 readsPage (Erases ps) q = false
@@ -85,7 +91,7 @@ readsPage (Erases ps) q = false
 abbrev pub changesPage : Plan → ImagePage → Bool
 changesPage (Refused a) q = false
 changesPage (Recorded a) q = false
-changesPage (Blank n) q = false
+changesPage (Blank a n) q = false
 changesPage (Reads ps) q = false
 changesPage (Programs ps) q = hasOne ps q
 changesPage (Erases ps) q = hasOne ps q
@@ -186,10 +192,11 @@ AllAlike =
     (s : State) (way way′ : List Bool) (xs ys zs zs′ : List Job) → Apart s xs ys → Shuffle way xs ys zs
     → Shuffle way′ xs ys zs′ → (endOf s zs .flash ≡ endOf s zs′ .flash) × (kindsOf (endOf s zs) ≡ kindsOf (endOf s zs′))
 
--- 'Where check 1 fails, every operation gives 1', with its buffer as it was and a bit count of 0; controller and flash stay.
+-- 'Where check 1 fails, every operation gives 1', which reports no decider, with its buffer as it was and a bit count of 0;
+-- controller and flash stay.
 abbrev pub refusedInvalid : List Job → List Given
 refusedInvalid [] = []
-refusedInvalid (j ∷ js) = record { answer = 1; words = j .buffer; bits = 0 } ∷ refusedInvalid js
+refusedInvalid (j ∷ js) = record { answer = 1; decider = noDecider; words = j .buffer; bits = 0 } ∷ refusedInvalid js
 
 abbrev pub WhereInvalid : Type 0
 WhereInvalid =

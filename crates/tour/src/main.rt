@@ -1,4 +1,5 @@
 // A small controller, D = 10, through the public calls: what each answers, one line a call.
+use calls::ToldHostWord;
 use calls::ToldStep;
 use calls::ToldWord;
 use libc::STDOUT_FILENO;
@@ -15,6 +16,9 @@ const PAGES: u32 = 10;
 const WORDS: usize = 11776;
 
 const PAGE_WORDS: usize = 256;
+
+// What a start reports that names nobody.
+const NO_DECIDER: u32 = 255;
 
 const READ: u8 = 0;
 
@@ -55,6 +59,12 @@ fn fetched(name: &[u8], r: ToldWord) {
     text(b"\n");
 }
 
+fn host_fetched(name: &[u8], r: ToldHostWord) {
+    told(name, r.answer);
+    word(r.word);
+    text(b"\n");
+}
+
 fn stepped(r: ToldStep) {
     told(b"step", r.answer);
     text(b" ");
@@ -72,7 +82,13 @@ fn start(s: &mut Registers, name: &[u8], kind: u8, address: u32, count: u32) {
         address: ByteAddress(address),
         count,
     };
-    line(name, operations::start(s, o));
+    let begun = operations::start(s, o);
+    told(name, begun.answer);
+    if begun.decider != NO_DECIDER {
+        text(b" by ");
+        number(begun.decider as u64);
+    }
+    text(b"\n");
 }
 
 fn push(s: &mut Registers, word: u32) {
@@ -132,7 +148,7 @@ fn read(s: &mut Registers, image: &mut [u32]) {
     pop(s);
     pop(s);
     pop(s);
-    fetched(b"host read", host::host_read(s, image, ByteAddress(0x38)));
+    host_fetched(b"host read", host::host_read(s, image, ByteAddress(0x38)));
 }
 
 // One step for each word of a page: the sum of the bits.

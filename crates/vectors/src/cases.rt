@@ -4,8 +4,8 @@ use super::drive::Run;
 use super::given::ONES;
 use super::given::WORDS;
 use super::print;
-use super::print::answer;
 use super::print::number;
+use super::print::ruled;
 use super::print::text;
 use model::Operation;
 use registers::Registers;
@@ -16,11 +16,11 @@ pub fn bits(n: u64) {
 }
 
 fn line(r: Run, w: Run) {
-    answer(b": ", r.answer);
+    ruled(b": ", r.answer, r.decider);
     number(b", ", r.steps);
     text(b" steps");
     bits(r.bits);
-    answer(b"; whole ", w.answer);
+    ruled(b"; whole ", w.answer, w.decider);
     bits(w.bits);
     text(b"\n");
 }

@@ -5,6 +5,7 @@ use registers::Registers;
 // `word` is the last one popped, or the first of a whole operation's buffer; `steps` counts those that moved a word.
 pub struct Run {
     pub answer: u32,
+    pub decider: u32,
     pub steps: u64,
     pub bits: u64,
     pub word: u32,
@@ -38,6 +39,7 @@ fn turn(s: &mut Registers, image: &mut [u32], word: u32, r: Run) -> Run {
     let last = popped(s, r.word);
     Run {
         answer: r.answer,
+        decider: r.decider,
         steps: std::num::wrapping_add_u64(r.steps, moves(t.movement) as u64),
         bits: std::num::wrapping_add_u64(r.bits, t.bits as u64),
         word: last,
@@ -46,9 +48,10 @@ fn turn(s: &mut Registers, image: &mut [u32], word: u32, r: Run) -> Run {
 
 // Steps past the last word are refused, and move and count nothing.
 pub fn by_steps(s: &mut Registers, image: &mut [u32], o: Operation, word: u32) -> Run {
-    let answer = operations::start(s, o);
+    let begun = operations::start(s, o);
     let mut r = Run {
-        answer,
+        answer: begun.answer,
+        decider: begun.decider,
         steps: 0,
         bits: 0,
         word: 0,
@@ -64,6 +67,7 @@ pub fn as_a_whole(s: &mut Registers, image: &mut [u32], o: Operation, word: u32)
     let done = whole::run(s, image, o, &mut buffer);
     Run {
         answer: done.answer,
+        decider: done.decider,
         steps: 0,
         bits: done.bits as u64,
         word: buffer[0],

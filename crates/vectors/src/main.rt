@@ -1,6 +1,8 @@
-// The bench sheet of document 01 through the public calls, in the sheet's order, one line a case; then rounds (document 02, L1).
+// The bench sheet of document 01 through the public calls, in the sheet's order, one line a case; then rounds (document 02, L1)
+// and who denies a call (L2).
 // D = 16 and all rights given unless a line says otherwise. Images start as ones, and zeros are programmed.
 mod cases;
+mod deciders;
 mod drive;
 mod erases;
 mod given;
@@ -36,4 +38,5 @@ fn main() {
     erases::erases(&s);
     no_kind(&s);
     turns::turns(&s);
+    deciders::deciders(&s);
 }

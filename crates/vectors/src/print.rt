@@ -21,6 +21,24 @@ pub fn answer(label: &[u8], a: u32) {
     number(label, a as u64);
 }
 
+// Who decided, where the answer is 9.
+fn by(decider: u32) {
+    match decider {
+        0..=7 => number(b" by region ", decider as u64),
+        8 => text(b" by default rights"),
+        9 => text(b" by page setting"),
+        10 => text(b" by seed lock"),
+        11 => text(b" by bank permission"),
+        _ => {}
+    }
+}
+
+// An answer that can be 9.
+pub fn ruled(label: &[u8], a: u32, decider: u32) {
+    answer(label, a);
+    by(decider);
+}
+
 pub fn answer_line(a: u32) {
     answer(b": ", a);
     text(b"\n");

@@ -16,14 +16,14 @@ use registers::Registers;
 
 const READ_RIGHT: u8 = 1;
 
-const NO_RIGHT: u8 = 0;
+pub const NO_RIGHT: u8 = 0;
 
 // The data pages of both banks.
 const DATA_PAGES: u32 = 32;
 
 // ---- regions
 
-fn region(on: bool, first: u32, count: u32, rights: u8) -> Region {
+pub fn region(on: bool, first: u32, count: u32, rights: u8) -> Region {
     Region {
         on,
         first: Page(first),
@@ -40,7 +40,7 @@ fn on_or_off(on: bool) {
     }
 }
 
-fn set_region(s: &mut Registers, i: u32, g: Region) {
+pub fn set_region(s: &mut Registers, i: u32, g: Region) {
     let first = g.first;
     number(b"set region ", i as u64);
     on_or_off(g.on);
@@ -62,7 +62,8 @@ pub fn two_regions(s: &Registers) {
 
 fn may_program(s: &Registers, address: u32) -> bool {
     let mut now = *s;
-    operations::start(&mut now, data(PROGRAM, address, 1)) == 0
+    let begun = operations::start(&mut now, data(PROGRAM, address, 1));
+    begun.answer == 0
 }
 
 // On how many of the data pages a program may start.

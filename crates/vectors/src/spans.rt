@@ -13,6 +13,7 @@ use super::given::data;
 use super::given::information;
 use super::print::answer;
 use super::print::hex;
+use super::print::ruled;
 use super::print::text;
 use model::ByteAddress;
 use registers::Registers;
@@ -63,11 +64,11 @@ pub fn words(s: &Registers) {
 
 // ---- ends of the flash, alignment and n
 
-fn host_read(s: &Registers, at: u32) {
+pub fn host_read(s: &Registers, at: u32) {
     let image = [ONES; WORDS];
     let r = host::host_read(s, &image, ByteAddress(at));
     hex(b"host read at 0x", at, 4);
-    answer(b": ", r.answer);
+    ruled(b": ", r.answer, r.decider);
     hex(b", word 0x", r.word, 8);
     text(b"\n");
 }

@@ -10,6 +10,7 @@ use super::print::answer_line;
 use super::print::hex;
 use super::print::number;
 use super::print::operation;
+use super::print::ruled;
 use super::print::text;
 use calls::ToldRound;
 use model::ByteAddress;
@@ -41,7 +42,7 @@ fn told(s: &Registers, r: ToldRound) {
     let step = r.step;
     text(b": host ");
     turn(host.turn);
-    answer(b" ", host.answer);
+    ruled(b" ", host.answer, host.decider);
     hex(b", word 0x", host.word, 8);
     text(b"; step ");
     turn(step.turn);
@@ -62,7 +63,7 @@ fn both(s: &mut Registers, image: &mut [u32], at: u32) {
     told(s, r);
 }
 
-fn host_alone(s: &mut Registers, image: &mut [u32], at: u32) {
+pub fn host_alone(s: &mut Registers, image: &mut [u32], at: u32) {
     let r = rounds::round(s, image, HostRequest::Word(ByteAddress(at)), false);
     hex(b"round of host at 0x", at, 4);
     told(s, r);
@@ -83,7 +84,8 @@ fn nobody(s: &mut Registers, image: &mut [u32]) {
 fn start(s: &mut Registers, o: Operation) {
     operation(o);
     text(b" started");
-    answer_line(operations::start(s, o));
+    let begun = operations::start(s, o);
+    answer_line(begun.answer);
 }
 
 // ---- a host that polls the bank in which a page is erased

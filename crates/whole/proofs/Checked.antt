@@ -1,7 +1,7 @@
 -- What the checks of a whole operation say of its words: their places, and the room in the buffer. Assumes nothing.
 use Prim.Native.Nat.{ℕ, _<_, _≤_}
 use native.Mathlib.Omega.{arith}
-use mathlib.Core.Path.{_≡_, refl, _∙_}
+use mathlib.Core.Path.{_≡_, refl}
 use mathlib.Core.Bool.{Bool, true, false, not, or-true}
 use mathlib.Core.List.{List}
 use lib.ListN.{length}
@@ -13,13 +13,11 @@ use Rattle.model.specs.Refusals.{accepts, isDenied, check}
 use Rattle.model.specs.Checks.{operationAnswer}
 use Rattle.model.specs.Whole.{wholeAnswer, shortBuffer}
 use Rattle.model.specs.declared.Operation.{Operation}
-use Rattle.model.specs.declared.Setup.{Setup}
 use Rattle.model.specs.declared.Controller.{Controller}
-use Rattle.model.specs.declared.Answer.the-variants.{Malformed, Denied}
+use Rattle.model.specs.declared.Answer.the-variants.{Malformed}
 use Rattle.model.proofs.Answers.{accepted-passes}
 use Rattle.model.proofs.Order.{pages-bound}
 use Rattle.model.proofs.Free.{whole-free, whole-fits}
-use Rattle.model.proofs.Answers.{answer-named}
 use Rattle.model.proofs.Places.{moving-words}
 use Rattle.plans.proofs.Wholes.{long}
 use Rattle.transfers.specs.Placed.{Placed}
@@ -47,10 +45,6 @@ module _ (c : Controller) (f : Flash) (o : Operation) (free : accepts (wholeAnsw
     blank-room d r =
         let kind : o .kind < 2 = omega (arith, eqb-true (o .kind) 0 r) in
         rw (moving-words (c .setup .pages) o kind) at (long c f o b free room (rw (d, r, or-true)) kind)
-
--- An answer of 9 is `Denied`.
-pub told-denied : (s : Setup) (o : Operation) → isDenied (operationAnswer s o) ≡ true → operationAnswer s o ≡ Denied
-told-denied s o d = answer-named s o (rw (d, or-true)) ∙ rw d
 
 -- Check 5 accepts what is not malformed.
 pub formed : (malformed : Bool) → accepts (check malformed Malformed) ≡ not malformed

@@ -8,7 +8,7 @@ use lib.ListN.{length, drop, replicate}
 use Rattle.model.specs.Words.{allOnes}
 use Rattle.model.specs.Queue.{emptyQueue, queueOf}
 use Rattle.model.specs.State.{Flash, isBusy}
-use Rattle.model.specs.Refusals.{numberOf, accepts, isDenied, check, readyAnswer}
+use Rattle.model.specs.Refusals.{numberOf, accepts, check, readyAnswer}
 use Rattle.model.specs.Checks.{operationAnswer}
 use Rattle.model.specs.Errors.{isRecorded, recorded}
 use Rattle.model.specs.Valid.{bothEmpty, valid, validWith}
@@ -17,7 +17,7 @@ use Rattle.model.specs.declared.BusWord.{BusWord}
 use Rattle.model.specs.declared.Operation.{Operation}
 use Rattle.model.specs.declared.Controller.{Controller}
 use Rattle.model.specs.declared.Answer.{Answer}
-use Rattle.model.specs.declared.Answer.the-variants.{Busy, Denied}
+use Rattle.model.specs.declared.Answer.the-variants.{Accepted, Busy, ShortBuffer}
 use Rattle.model.proofs.Answers.{unrecorded, recorded-if-refused, both-accept}
 use Rattle.model.proofs.Moving.{with-valid}
 use Rattle.model.proofs.Accepting.{ready-valid}
@@ -28,9 +28,8 @@ use Rattle.registers.specs.Registers.{encoded, setupOf, standsFor, decode, queu
 use Rattle.registers.proofs.Kept.{put-back, valid-encoded}
 use Rattle.registers.proofs.Written.{put-errors, put-reads, put-programs, put-reads-recorded}
 use Rattle.validity.proofs.Taken.{taken-stands}
-use Rattle.calls.specs.Calls.{wholeLeft, wholeIn}
+use Rattle.calls.specs.Calls.{toldBits, wholeLeft, wholeIn}
 use Rattle.whole.specs.Admitted.{Admitted}
-use Rattle.whole.proofs.Checked.{told-denied}
 
 -- ---- checks 1 to 4
 
@@ -66,7 +65,7 @@ empty-places = refl
 module _ (s : List ℕ) (f : Flash) (o : Operation) (b : List ℕ) where
   -- Refused by 1 to 4,
   pub run-refused : (a : Answer) → a ≡ wholeAnswer (decode s) f → accepts a ≡ false
-      → record { told = record { answer = numberOf a; bits = 0 }; registers = s; flash = f; buffer = b } ≡ wholeIn s f o b
+      → record { told = toldBits a 0; registers = s; flash = f; buffer = b } ≡ wholeIn s f o b
   unfolding wholeIn planOf performed
   run-refused a e h =
       let refused : accepts (wholeAnswer (decode s) f) ≡ false = rw e at h in
@@ -76,7 +75,7 @@ module _ (s : List ℕ) (f : Flash) (o : Operation) (b : List ℕ) where
   module _ (free : accepts (wholeAnswer (decode s) f) ≡ true) where
     -- or by 6, it changes nothing.
     pub run-short : shortBuffer o b ≡ true
-        → record { told = record { answer = 6; bits = 0 }; registers = s; flash = f; buffer = b } ≡ wholeIn s f o b
+        → record { told = toldBits ShortBuffer 0; registers = s; flash = f; buffer = b } ≡ wholeIn s f o b
     unfolding wholeIn planOf performed
     run-short h = rw (closed-form (decode s) f o b, free, h)
 
@@ -109,14 +108,14 @@ module _ (s : List ℕ) (f : Flash) (o : Operation) (b : List ℕ) where
 module _ (s : List ℕ) (f : Flash) (o : Operation) (b : List ℕ) (h : encoded s ≡ true) where
   -- A read empties the read queue, a program the program queue, an erase neither.
   pub left-read : (ps : List BusWord)
-      → record { told = record { answer = 0; bits = 0 }; registers = putQueue s readsFrom emptyQueue; flash = f; buffer = deliveredAt f ps ++ drop (length ps) b }
+      → record { told = toldBits Accepted 0; registers = putQueue s readsFrom emptyQueue; flash = f; buffer = deliveredAt f ps ++ drop (length ps) b }
       ≡ wholeLeft s (performed (standsFor s) f o b (Reads ps))
   unfolding performed
   left-read ps = rw (put-reads s h emptyQueue empty-places)
 
   pub left-program : (ps : List BusWord)
       → record {
-        told = record { answer = 0; bits = changed-all (setupOf s) (programming b) 0 ps f };
+        told = toldBits Accepted (changed-all (setupOf s) (programming b) 0 ps f);
         registers = putQueue s programsFrom emptyQueue;
         flash = stored-all (programming b) 0 ps f;
         buffer = b;
@@ -127,7 +126,7 @@ module _ (s : List ℕ) (f : Flash) (o : Operation) (b : List ℕ) (h : encoded 
 
   pub left-erase : (ps : List BusWord)
       → record {
-        told = record { answer = 0; bits = changed-all (setupOf s) erasing 0 ps f };
+        told = toldBits Accepted (changed-all (setupOf s) erasing 0 ps f);
         registers = s;
         flash = stored-all erasing 0 ps f;
         buffer = b;
@@ -142,7 +141,7 @@ module _ (s : List ℕ) (f : Flash) (o : Operation) (b : List ℕ) (h : encoded 
     told-so = rw asked (recorded-if-refused (setupOf s) o (rw asked at refused))
 
     pub left-recorded : record {
-      told = record { answer = numberOf a; bits = 0 };
+      told = toldBits a 0;
       registers = putErrors s (recorded (numberOf a) (o .address) (errorsAt s));
       flash = f;
       buffer = b;
@@ -152,14 +151,12 @@ module _ (s : List ℕ) (f : Flash) (o : Operation) (b : List ℕ) (h : encoded 
     left-recorded = rw (refused, told-so, put-errors s h (recorded (numberOf a) (o .address) (errorsAt s)))
 
     -- and a denied read is blank.
-    pub left-blank : isDenied a ≡ true → record {
-      told = record { answer = numberOf a; bits = 0 };
+    pub left-blank : record {
+      told = toldBits a 0;
       registers = putErrors (putQueue s readsFrom emptyQueue) (recorded (numberOf a) (o .address) (errorsAt s));
       flash = f;
       buffer = replicate (o .count) allOnes ++ drop (o .count) b;
     }
-        ≡ wholeLeft s (performed (standsFor s) f o b (Blank (o .count)))
+        ≡ wholeLeft s (performed (standsFor s) f o b (Blank a (o .count)))
     unfolding performed standsFor
-    left-blank d =
-        let named : a ≡ Denied = asked ∙ told-denied (setupOf s) o (rw asked at d) in
-        rw (named, put-reads-recorded s h (recorded (numberOf Denied) (o .address) (errorsAt s)) emptyQueue empty-places)
+    left-blank = rw (refused, told-so, put-reads-recorded s h (recorded (numberOf a) (o .address) (errorsAt s)) emptyQueue empty-places)

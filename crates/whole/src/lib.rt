@@ -8,7 +8,7 @@ ghost use Rattle.model.specs.Checks.{operationAnswer};
 ghost use Rattle.model.specs.Whole.{wholeAnswer, shortBuffer};
 ghost use Rattle.plans.specs.Plan.{planStarted, planAnswered, performed};
 ghost use Rattle.registers.specs.Registers.{setupOf, standsFor, decode, errorsAt};
-ghost use Rattle.calls.specs.Calls.{wholeLeft, wholeIn};
+ghost use Rattle.calls.specs.Calls.{toldBits, wholeLeft, wholeIn};
 ghost use Rattle.whole.specs.Admitted.{Admitted};
 use calls::ToldBits;
 use model::Answer;
@@ -46,11 +46,12 @@ fn short_buffer(o: Operation, buffer: &[u32]) -> bool
 // ---- what is done once they have passed
 
 fn told(answer: Answer, bits: u32) -> ToldBits
-    ensures { λ r. ⌜ r ≡ record { answer = numberOf answer; bits = bits } ⌝ }
+    ensures { λ r. ⌜ r ≡ toldBits answer bits ⌝ }
 {
-    let number = calls::number(answer);
+    let told = calls::told(answer);
     ToldBits {
-        answer: number,
+        answer: told.answer,
+        decider: told.decider,
         bits,
     }
 }

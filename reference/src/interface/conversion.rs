@@ -3,8 +3,9 @@
 
 use super::flat;
 use crate::model::{
-    self, Controller, InProgress, InfoSetting, Operation, Phase, Progress, Queue, Region, Rounded,
-    Stepped, Turn, WordGiven, BANK_ERASE, PAGE_ERASE, PROGRAM, READ,
+    self, Controller, Decider, HostGiven, InProgress, InfoSetting, Operation, Phase, Progress,
+    Queue, Region, Rounded, Started, Stepped, Turn, WholeDone, WordGiven, BANK_ERASE, PAGE_ERASE,
+    PROGRAM, READ,
 };
 
 /// The kinds that a record holds: 5, 7, 8 and 9.
@@ -236,6 +237,29 @@ pub fn asked_setting(setting: flat::PageSetting) -> InfoSetting {
 
 // -- answers -------------------------------------------------------------------
 
+pub fn decider_number(decider: Option<Decider>) -> u32 {
+    decider.map_or(flat::NO_DECIDER, |decider| decider.number().into())
+}
+
+impl From<Started> for flat::Started {
+    fn from(given: Started) -> Self {
+        flat::Started {
+            answer: given.refusal.into(),
+            decider: decider_number(given.decider),
+        }
+    }
+}
+
+impl From<WholeDone> for flat::Completed {
+    fn from(given: WholeDone) -> Self {
+        flat::Completed {
+            answer: given.refusal.into(),
+            decider: decider_number(given.decider),
+            bits: given.bits,
+        }
+    }
+}
+
 impl From<Stepped> for flat::Stepped {
     fn from(given: Stepped) -> Self {
         flat::Stepped {
@@ -260,18 +284,30 @@ impl From<WordGiven> for flat::Fetched {
     }
 }
 
+impl From<HostGiven> for flat::HostFetched {
+    fn from(given: HostGiven) -> Self {
+        flat::HostFetched {
+            answer: given.refusal.into(),
+            decider: decider_number(given.decider),
+            word: given.word,
+        }
+    }
+}
+
 /// A side that is not served is answered 0; a step that waits for its turn is stalled.
 impl From<Rounded> for flat::Rounded {
     fn from(given: Rounded) -> Self {
-        let (host_turn, host) = side(given.host, flat::Fetched::default());
+        let no_word = flat::HostFetched::from(HostGiven::default());
+        let (host_turn, host) = side(given.host, no_word, no_word);
         let stalled = flat::Stepped {
             movement: flat::MOVEMENT_STALLED,
             ..flat::Stepped::default()
         };
-        let (step_turn, step) = side(given.step, stalled);
+        let (step_turn, step) = side(given.step, flat::Stepped::default(), stalled);
         flat::Rounded {
             host_turn,
             host_answer: host.answer,
+            host_decider: host.decider,
             word: host.word,
             step_turn,
             step_answer: step.answer,
@@ -282,9 +318,9 @@ impl From<Rounded> for flat::Rounded {
 }
 
 /// The number of a side's turn, and what it is told.
-fn side<T: Into<F>, F: Default>(turn: Turn<T>, waiting: F) -> (u32, F) {
+fn side<T: Into<F>, F>(turn: Turn<T>, unasked: F, waiting: F) -> (u32, F) {
     match turn {
-        Turn::Unasked => (flat::TURN_UNASKED, F::default()),
+        Turn::Unasked => (flat::TURN_UNASKED, unasked),
         Turn::Waiting => (flat::TURN_WAITING, waiting),
         Turn::Served(given) => (flat::TURN_SERVED, given.into()),
     }

@@ -30,6 +30,14 @@ pub const TURN_UNASKED: u32 = 0;
 pub const TURN_WAITING: u32 = 1;
 pub const TURN_SERVED: u32 = 2;
 
+// Deciders 0 to 7 are the regions of these numbers.
+pub const BY_DEFAULT: u32 = 8;
+pub const BY_PAGE_SETTING: u32 = 9;
+pub const BY_SEED_LOCK: u32 = 10;
+pub const BY_BANK_PERMISSION: u32 = 11;
+/// Every answer but 9 reports nobody.
+pub const NO_DECIDER: u32 = 255;
+
 const NUMBER_BYTES: usize = size_of::<u32>();
 
 /// Declares a struct of the header; asserts how many numbers it has and which
@@ -121,6 +129,11 @@ header_struct!(Initialised, numbers 18, {
     1 seeds: Seeds,
 });
 
+header_struct!(Started, numbers 2, {
+    0 answer: u32,
+    1 decider: u32,
+});
+
 header_struct!(Stepped, numbers 3, {
     0 answer: u32,
     1 movement: u32,
@@ -132,22 +145,31 @@ header_struct!(Fetched, numbers 2, {
     1 word: u32,
 });
 
-header_struct!(Completed, numbers 2, {
+header_struct!(HostFetched, numbers 3, {
     0 answer: u32,
-    1 bits: u32,
+    1 decider: u32,
+    2 word: u32,
 });
 
-header_struct!(Viewed, numbers 2, {
+header_struct!(Completed, numbers 3, {
     0 answer: u32,
-    1 start: u32,
+    1 decider: u32,
+    2 bits: u32,
 });
 
-header_struct!(Rounded, numbers 7, {
+header_struct!(Viewed, numbers 3, {
+    0 answer: u32,
+    1 decider: u32,
+    2 start: u32,
+});
+
+header_struct!(Rounded, numbers 8, {
     0 host_turn: u32,
     1 host_answer: u32,
-    2 word: u32,
-    3 step_turn: u32,
-    4 step_answer: u32,
-    5 movement: u32,
-    6 bits: u32,
+    2 host_decider: u32,
+    3 word: u32,
+    4 step_turn: u32,
+    5 step_answer: u32,
+    6 movement: u32,
+    7 bits: u32,
 });

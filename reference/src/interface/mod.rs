@@ -6,6 +6,6 @@ pub mod fields;
 pub mod flat;
 
 pub use conversion::{
-    asked_byte, asked_flag, asked_operation, asked_region, asked_setting, from_reference,
-    to_reference,
+    asked_byte, asked_flag, asked_operation, asked_region, asked_setting, decider_number,
+    from_reference, to_reference,
 };

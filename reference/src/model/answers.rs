@@ -1,5 +1,8 @@
 //! 01, "When the desk says no": what a call gives beside its refusal number;
-//! 02, L1: what a round tells each side.
+//! 02, L1: what a round tells each side; L2: who decided, exactly if the refusal is 9.
+
+use super::deciders::Decider;
+use super::refusals::Refusal;
 
 pub const SEED_WORDS: usize = 8;
 
@@ -9,6 +12,21 @@ pub struct Initialised {
     pub seeds_given: bool,
     pub creator_seed: [u32; SEED_WORDS],
     pub owner_seed: [u32; SEED_WORDS],
+}
+
+#[derive(Clone, Copy, Debug, Default, PartialEq, Eq)]
+pub struct Started {
+    pub refusal: u8,
+    pub decider: Option<Decider>,
+}
+
+impl From<Refusal> for Started {
+    fn from(refusal: Refusal) -> Self {
+        Started {
+            refusal: refusal.number,
+            decider: refusal.decider,
+        }
+    }
 }
 
 #[derive(Clone, Copy, Debug, PartialEq, Eq)]
@@ -27,16 +45,25 @@ pub struct Stepped {
     pub bits: u32,
 }
 
-/// The answer of a pop and of a host read.
+/// The answer of a pop.
 #[derive(Clone, Copy, Debug, Default, PartialEq, Eq)]
 pub struct WordGiven {
     pub refusal: u8,
     pub word: u32,
 }
 
+/// The answer of a host read.
+#[derive(Clone, Copy, Debug, Default, PartialEq, Eq)]
+pub struct HostGiven {
+    pub refusal: u8,
+    pub decider: Option<Decider>,
+    pub word: u32,
+}
+
 #[derive(Clone, Copy, Debug, Default, PartialEq, Eq)]
 pub struct WholeDone {
     pub refusal: u8,
+    pub decider: Option<Decider>,
     /// Bits changed in flash.
     pub bits: u32,
 }
@@ -59,7 +86,7 @@ impl<T> From<Option<T>> for Turn<T> {
 
 #[derive(Clone, Copy, Debug, PartialEq, Eq)]
 pub struct Rounded {
-    pub host: Turn<WordGiven>,
+    pub host: Turn<HostGiven>,
     pub step: Turn<Stepped>,
 }
 
@@ -67,6 +94,7 @@ pub struct Rounded {
 #[derive(Clone, Copy, Debug, Default, PartialEq, Eq)]
 pub struct View {
     pub refusal: u8,
+    pub decider: Option<Decider>,
     pub start: usize,
     pub length: usize,
 }

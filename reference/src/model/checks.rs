@@ -5,14 +5,16 @@ use super::operation::{uses_count, Operation};
 use super::operation_checks::well_formed;
 use super::queue::QUEUE_WORDS;
 use super::refusals::{
-    BAD_SETTING, BUSY, DENIED, DISABLED, INVALID, MALFORMED, OUT_OF_RANGE, QUEUE_EMPTY, QUEUE_FULL,
-    SHORT_BUFFER, UNEXPECTED, UNINITIALISED,
+    Refusal, BAD_SETTING, BUSY, DISABLED, INVALID, MALFORMED, OUT_OF_RANGE, QUEUE_EMPTY,
+    QUEUE_FULL, SHORT_BUFFER, UNEXPECTED, UNINITIALISED,
 };
 use super::rights::{data_rights, RIGHT_READ};
 use super::state::{Controller, InProgress, Phase};
 use super::validity::{is_valid, words_pushed};
 
 type Check = Result<(), u8>;
+/// Of a host read or a view: 9 reports who decided.
+type CheckWithDecider = Result<(), Refusal>;
 
 /// The refusal applies if `wrong`.
 fn refuse_if(wrong: bool, refusal: u8) -> Check {
@@ -110,7 +112,7 @@ pub(super) fn check_pop(c: &Controller) -> Check {
     refuse_if(c.read_queue.length == 0, QUEUE_EMPTY)
 }
 
-pub(super) fn check_host_read(c: &Controller, image: &[u32], address: u32) -> Check {
+pub(super) fn check_host_read(c: &Controller, image: &[u32], address: u32) -> CheckWithDecider {
     check_ready(c, image)?;
     refuse_if(!is_aligned(address), MALFORMED)?;
     let address = u64::from(address);
@@ -118,7 +120,7 @@ pub(super) fn check_host_read(c: &Controller, image: &[u32], address: u32) -> Ch
     check_readable(c, address / PAGE_BYTES)
 }
 
-pub(super) fn check_view(c: &Controller, image: &[u32], page: u32) -> Check {
+pub(super) fn check_view(c: &Controller, image: &[u32], page: u32) -> CheckWithDecider {
     check_ready(c, image)?;
     let page = u64::from(page);
     refuse_if(page >= BANKS * u64::from(c.data_pages), OUT_OF_RANGE)?;
@@ -126,6 +128,9 @@ pub(super) fn check_view(c: &Controller, image: &[u32], page: u32) -> Check {
 }
 
 /// 9 of a data page, counted over both banks.
-fn check_readable(c: &Controller, page: u64) -> Check {
-    refuse_if(data_rights(c, page) & RIGHT_READ == 0, DENIED)
+fn check_readable(c: &Controller, page: u64) -> CheckWithDecider {
+    match data_rights(c, page).denies(RIGHT_READ) {
+        Some(decider) => Err(Refusal::denied(decider)),
+        None => Ok(()),
+    }
 }

@@ -1,11 +1,13 @@
 //! Document 01, "Exact rules for the build", with the change requests of 02 that
-//! have landed (L1), as one plain program.
+//! have landed (L1 and L2), as one plain program.
 //!
 //! Every public call takes any controller, also a broken one, and gives the
-//! refusal number of 01 (0 for none) with whatever else the call hands out.
+//! refusal number of 01 (0 for none) with whatever else the call hands out. Every
+//! call that can answer 9 tells with it who decided.
 
 mod answers;
 mod checks;
+mod deciders;
 mod geometry;
 mod host;
 mod lifecycle;
@@ -22,6 +24,7 @@ mod validity;
 mod whole;
 
 pub use answers::*;
+pub use deciders::*;
 pub use geometry::*;
 pub use host::*;
 pub use lifecycle::*;

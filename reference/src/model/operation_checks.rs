@@ -7,24 +7,24 @@ use super::operation::{
     touched_addresses, uses_count, uses_type, Operation, BANK_ERASE, DATA, INFORMATION, MAX_COUNT,
     PROGRAM,
 };
-use super::refusals::{CROSSES_WINDOW, DENIED, MALFORMED, NONE, OUT_OF_RANGE};
-use super::rights::allowed;
+use super::refusals::{Refusal, CROSSES_WINDOW, MALFORMED, NONE, OUT_OF_RANGE};
+use super::rights::denied_by;
 use super::state::Controller;
 
 const PROGRAM_WINDOW_BYTES: u64 = 64;
 
 /// The first refusal of 5, 7, 8 and 9 that applies.
-pub(super) fn operation_refusal(c: &Controller, operation: &Operation) -> u8 {
+pub(super) fn operation_refusal(c: &Controller, operation: &Operation) -> Refusal {
     if !well_formed(operation) {
-        MALFORMED
+        MALFORMED.into()
     } else if !inside(c.data_pages, operation) {
-        OUT_OF_RANGE
+        OUT_OF_RANGE.into()
     } else if operation.kind == PROGRAM && !in_one_window(operation) {
-        CROSSES_WINDOW
-    } else if !allowed(c, operation) {
-        DENIED
+        CROSSES_WINDOW.into()
+    } else if let Some(decider) = denied_by(c, operation) {
+        Refusal::denied(decider)
     } else {
-        NONE
+        NONE.into()
     }
 }
 

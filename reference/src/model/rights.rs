@@ -1,5 +1,6 @@
-//! 01, "Who may touch which page".
+//! 01, "Who may touch which page"; 02, L2: who decides it.
 
+use super::deciders::Decider;
 use super::geometry::{bank_of, info_index, page_in_bank, CREATOR_PAGE, OWNER_PAGE, PAGE_BYTES};
 use super::operation::{touched_addresses, Operation, DATA, PAGE_ERASE, PROGRAM, READ};
 use super::state::{Controller, Region};
@@ -9,21 +10,36 @@ pub const RIGHT_PROGRAM: u8 = 2;
 pub const RIGHT_ERASE: u8 = 4;
 pub const ALL_RIGHTS: u8 = 7;
 
-/// Check 9, of an operation that passes 5 and 7.
-pub(super) fn allowed(c: &Controller, operation: &Operation) -> bool {
+/// The rights to a page, and who decided them.
+pub(super) struct Decided {
+    rights: u8,
+    decider: Decider,
+}
+
+impl Decided {
+    /// Who decided, if the right is not given.
+    pub(super) fn denies(&self, right: u8) -> Option<Decider> {
+        (self.rights & right == 0).then_some(self.decider)
+    }
+}
+
+/// Check 9, of an operation that passes 5 and 7: who decided that it is denied.
+/// A bank erase looks at no page; else the first denied page in the words' order counts.
+pub(super) fn denied_by(c: &Controller, operation: &Operation) -> Option<Decider> {
     let right = match operation.kind {
         READ => RIGHT_READ,
         PROGRAM => RIGHT_PROGRAM,
         PAGE_ERASE => RIGHT_ERASE,
         _ => {
             let bank = bank_of(c.data_pages, u64::from(operation.address));
-            return c.bank_erase_permissions[bank as usize];
+            let permitted = c.bank_erase_permissions[bank as usize];
+            return (!permitted).then_some(Decider::BankPermission);
         }
     };
-    touched_addresses(operation).all(|address| rights_at(c, operation, address) & right != 0)
+    touched_addresses(operation).find_map(|at| rights_at(c, operation, at).denies(right))
 }
 
-fn rights_at(c: &Controller, operation: &Operation, address: u64) -> u8 {
+fn rights_at(c: &Controller, operation: &Operation, address: u64) -> Decided {
     if operation.partition == DATA {
         return data_rights(c, address / PAGE_BYTES);
     }
@@ -34,13 +50,19 @@ fn rights_at(c: &Controller, operation: &Operation, address: u64) -> u8 {
 
 /// The lowest-numbered region that is on and holds the page decides, alone.
 /// `page` counts 0 to 2D - 1 over both banks.
-pub(super) fn data_rights(c: &Controller, page: u64) -> u8 {
-    for region in &c.regions {
+pub(super) fn data_rights(c: &Controller, page: u64) -> Decided {
+    for (number, region) in (0..).zip(&c.regions) {
         if region.on && holds(region, page) {
-            return region.rights;
+            return Decided {
+                rights: region.rights,
+                decider: Decider::Region(number),
+            };
         }
     }
-    c.default_rights
+    Decided {
+        rights: c.default_rights,
+        decider: Decider::Default,
+    }
 }
 
 fn holds(region: &Region, page: u64) -> bool {
@@ -48,16 +70,22 @@ fn holds(region: &Region, page: u64) -> bool {
     first <= page && page < first + u64::from(region.page_count)
 }
 
-fn info_rights(c: &Controller, bank: u64, info_type: u8, page: u64) -> u8 {
+/// A closed seed page is the seed lock's, whatever its setting says.
+fn info_rights(c: &Controller, bank: u64, info_type: u8, page: u64) -> Decided {
     let setting = c.info_settings[info_index(bank, info_type, page)];
     let open = match (bank, info_type, page) {
         (0, 0, CREATOR_PAGE) => c.provision_enabled && !c.seeds_locked,
         (0, 0, OWNER_PAGE) => c.provision_enabled,
         _ => true,
     };
-    if setting.on && open {
-        setting.rights
-    } else {
-        0
+    if !open {
+        return Decided {
+            rights: 0,
+            decider: Decider::SeedLock,
+        };
+    }
+    Decided {
+        rights: if setting.on { setting.rights } else { 0 },
+        decider: Decider::PageSetting,
     }
 }

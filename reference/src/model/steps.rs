@@ -1,6 +1,6 @@
 //! 01, "Steps": an operation in parts.
 
-use super::answers::{Progress, Stepped, WordGiven};
+use super::answers::{Progress, Started, Stepped, WordGiven};
 use super::checks::{check_pop, check_push, check_ready, check_start};
 use super::geometry::ONES;
 use super::operation::{moving_place, words_to_move, Operation, PROGRAM, READ};
@@ -10,19 +10,22 @@ use super::refusals::{record, DENIED, NONE, UNEXPECTED};
 use super::state::{Controller, InProgress};
 
 /// Checks 1, 2, 3, 4, 5, 7, 8, 9. A denied read gives 9 and starts blank.
-pub fn start(c: &mut Controller, operation: Operation) -> u8 {
+pub fn start(c: &mut Controller, operation: Operation) -> Started {
     if let Err(refusal) = check_start(c) {
-        return refusal;
+        return Started {
+            refusal,
+            ..Started::default()
+        };
     }
     let refusal = operation_refusal(c, &operation);
-    if refusal != NONE {
-        record(c, refusal, operation.address);
+    if refusal.number != NONE {
+        record(c, refusal.number, operation.address);
     }
-    let blank_read = refusal == DENIED && operation.kind == READ;
-    if refusal == NONE || blank_read {
+    let blank_read = refusal.number == DENIED && operation.kind == READ;
+    if refusal.number == NONE || blank_read {
         c.in_progress = begin(operation, blank_read);
     }
-    refusal
+    refusal.into()
 }
 
 fn begin(operation: Operation, blank_read: bool) -> InProgress {

@@ -58,13 +58,13 @@ fn in_progress_is_valid(c: &Controller) -> bool {
         InProgress::Program { operation, moved } => {
             operation.kind == PROGRAM
                 && under_way(c, &operation, moved)
-                && operation_refusal(c, &operation) == NONE
+                && operation_refusal(c, &operation).number == NONE
                 && words_pushed(moved, &c.program_queue) <= u64::from(operation.count)
         }
         InProgress::Erase { operation, moved } => {
             matches!(operation.kind, PAGE_ERASE | BANK_ERASE)
                 && under_way(c, &operation, moved)
-                && operation_refusal(c, &operation) == NONE
+                && operation_refusal(c, &operation).number == NONE
                 && c.program_queue.length == 0
         }
     }
@@ -77,7 +77,7 @@ fn under_way(c: &Controller, operation: &Operation, moved: u32) -> bool {
 
 /// A denied read is there as blank, and no other read is.
 fn readable_is_valid(c: &Controller, operation: &Operation, readable: u32) -> bool {
-    match operation_refusal(c, operation) {
+    match operation_refusal(c, operation).number {
         NONE => readable == operation.count,
         DENIED => readable == 0,
         _ => false,

@@ -1,6 +1,6 @@
 //! 01, "Steps": a whole operation.
 
-use super::answers::WholeDone;
+use super::answers::{Started, WholeDone};
 use super::checks::check_whole;
 use super::operation::Operation;
 use super::refusals::NONE;
@@ -16,11 +16,18 @@ pub fn whole(
     buffer: &mut [u32],
 ) -> WholeDone {
     if let Err(refusal) = check_whole(c, &operation, image, buffer) {
-        return WholeDone { refusal, bits: 0 };
+        return WholeDone {
+            refusal,
+            ..WholeDone::default()
+        };
     }
-    let refusal = start(c, operation);
+    let Started { refusal, decider } = start(c, operation);
     let bits = run_until_drained(c, image, buffer);
-    WholeDone { refusal, bits }
+    WholeDone {
+        refusal,
+        decider,
+        bits,
+    }
 }
 
 /// Pushes, steps and pops until finished and drained; sums the bits changed.

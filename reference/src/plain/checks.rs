@@ -1,11 +1,12 @@
-//! 01, "Who may touch which page" and "When the desk says no": rights and checks.
+//! 01, "Who may touch which page" and "When the desk says no": rights and checks;
+//! 02, L2: who decided.
 
 use super::words::{erased, image_words, INFO_PAGES, INFO_TYPES, PAGE_BYTES, WORD_BYTES};
 use crate::model::{
-    Controller, InProgress, Operation, Phase, Region, ALL_RIGHTS, BANK_ERASE, CREATOR_PAGE,
-    CROSSES_WINDOW, DATA, DENIED, DISABLED, INFORMATION, INVALID, MALFORMED, MAX_COUNT, MOST_LOST,
-    NONE, OUT_OF_RANGE, OWNER_PAGE, PAGE_ERASE, PROGRAM, QUEUE_WORDS, READ, RIGHT_ERASE,
-    RIGHT_PROGRAM, RIGHT_READ, UNINITIALISED,
+    Controller, Decider, InProgress, Operation, Phase, Refusal, Region, ALL_RIGHTS, BANK_ERASE,
+    CREATOR_PAGE, CROSSES_WINDOW, DATA, DENIED, DISABLED, INFORMATION, INVALID, MALFORMED,
+    MAX_COUNT, MOST_LOST, NONE, OUT_OF_RANGE, OWNER_PAGE, PAGE_ERASE, PROGRAM, QUEUE_WORDS, READ,
+    RIGHT_ERASE, RIGHT_PROGRAM, RIGHT_READ, UNINITIALISED,
 };
 
 const WINDOW_BYTES: u32 = 64;
@@ -54,7 +55,7 @@ fn valid_progress(c: &Controller) -> bool {
             moved,
             readable,
         } => {
-            let fits = match operation_refusal(c, operation) {
+            let fits = match operation_refusal(c, operation).number {
                 NONE => *readable == operation.count,
                 DENIED => *readable == 0,
                 _ => false,
@@ -63,13 +64,13 @@ fn valid_progress(c: &Controller) -> bool {
         }
         InProgress::Program { operation, moved } => {
             operation.kind == PROGRAM
-                && operation_refusal(c, operation) == NONE
+                && operation_refusal(c, operation).number == NONE
                 && *moved < operation.count
                 && moved + queued <= operation.count
         }
         InProgress::Erase { operation, moved } => {
             matches!(operation.kind, PAGE_ERASE | BANK_ERASE)
-                && operation_refusal(c, operation) == NONE
+                && operation_refusal(c, operation).number == NONE
                 && (*moved as usize) < erased(c.data_pages, operation).len()
                 && queued == 0
         }
@@ -81,18 +82,18 @@ pub(super) fn counts(operation: &Operation) -> bool {
 }
 
 /// Checks 5, 7, 8 and 9, of a D that is right.
-pub(super) fn operation_refusal(c: &Controller, operation: &Operation) -> u8 {
+pub(super) fn operation_refusal(c: &Controller, operation: &Operation) -> Refusal {
     if !well_formed(operation) {
-        return MALFORMED;
+        return MALFORMED.into();
     }
     let d = c.data_pages;
     if operation.address >= 2 * d * PAGE_BYTES {
-        return OUT_OF_RANGE;
+        return OUT_OF_RANGE.into();
     }
     let first = operation.address / PAGE_BYTES;
     if operation.kind == BANK_ERASE {
         let allowed = c.bank_erase_permissions[(first / d) as usize];
-        return if allowed { NONE } else { DENIED };
+        return denied_if((!allowed).then_some(Decider::BankPermission));
     }
     let last_byte = match operation.kind {
         PAGE_ERASE => operation.address,
@@ -105,10 +106,10 @@ pub(super) fn operation_refusal(c: &Controller, operation: &Operation) -> u8 {
         _ => first % d + (last - first) < INFO_TYPES[usize::from(operation.info_type)].1,
     };
     if !fits {
-        return OUT_OF_RANGE;
+        return OUT_OF_RANGE.into();
     }
     if operation.kind == PROGRAM && operation.address / WINDOW_BYTES != last_byte / WINDOW_BYTES {
-        return CROSSES_WINDOW;
+        return CROSSES_WINDOW.into();
     }
     let right = match operation.kind {
         READ => RIGHT_READ,
@@ -116,15 +117,19 @@ pub(super) fn operation_refusal(c: &Controller, operation: &Operation) -> u8 {
         _ => RIGHT_ERASE,
     };
     let mut pages = first..last + 1;
-    let allowed = match operation.partition {
-        DATA => pages.all(|page| data_rights(c, page) & right != 0),
-        _ => pages.all(|page| info_rights(c, operation.info_type, page) & right != 0),
-    };
-    if allowed {
-        NONE
-    } else {
-        DENIED
-    }
+    denied_if(match operation.partition {
+        DATA => pages.find_map(|page| lacking(data_rights(c, page), right)),
+        _ => pages.find_map(|page| lacking(info_rights(c, operation.info_type, page), right)),
+    })
+}
+
+fn denied_if(decider: Option<Decider>) -> Refusal {
+    decider.map_or(NONE.into(), Refusal::denied)
+}
+
+/// Who decided, if the right is not among the rights.
+pub(super) fn lacking((rights, decider): (u8, Decider), right: u8) -> Option<Decider> {
+    (rights & right == 0).then_some(decider)
 }
 
 fn well_formed(operation: &Operation) -> bool {
@@ -137,23 +142,25 @@ fn well_formed(operation: &Operation) -> bool {
 }
 
 /// Of a data page, counted over both banks.
-pub(super) fn data_rights(c: &Controller, page: u32) -> u8 {
-    let holds = |r: &&Region| r.on && r.first_page <= page && page - r.first_page < r.page_count;
-    let decides = c.regions.iter().find(holds);
-    decides.map_or(c.default_rights, |region| region.rights)
+pub(super) fn data_rights(c: &Controller, page: u32) -> (u8, Decider) {
+    let holds = |r: &Region| r.on && r.first_page <= page && page - r.first_page < r.page_count;
+    match c.regions.iter().position(holds) {
+        Some(number) => (c.regions[number].rights, Decider::Region(number as u8)),
+        None => (c.default_rights, Decider::Default),
+    }
 }
 
 /// Of an information page, by the data page that has its addresses.
-fn info_rights(c: &Controller, info_type: u8, page: u32) -> u8 {
+fn info_rights(c: &Controller, info_type: u8, page: u32) -> (u8, Decider) {
     let (bank, page) = (page / c.data_pages, page % c.data_pages);
     let index = bank * INFO_PAGES + INFO_TYPES[usize::from(info_type)].0 + page;
     let setting = c.info_settings[index as usize];
     let seed_page = |number| bank == 0 && info_type == 0 && u64::from(page) == number;
-    let denied = seed_page(CREATOR_PAGE) && (!c.provision_enabled || c.seeds_locked)
+    let closed = seed_page(CREATOR_PAGE) && (!c.provision_enabled || c.seeds_locked)
         || seed_page(OWNER_PAGE) && !c.provision_enabled;
-    if setting.on && !denied {
-        setting.rights
-    } else {
-        0
+    match (closed, setting.on) {
+        (true, _) => (0, Decider::SeedLock),
+        (false, true) => (setting.rights, Decider::PageSetting),
+        (false, false) => (0, Decider::PageSetting),
     }
 }

@@ -11,30 +11,30 @@ mod rounds;
 mod words;
 
 use crate::model::{
-    Controller, InProgress, Operation, Progress, Queue, Stepped, WholeDone, WordGiven, BUSY,
-    DENIED, INVALID, MALFORMED, NONE, ONES, OUT_OF_RANGE, PROGRAM, QUEUE_EMPTY, QUEUE_FULL,
-    QUEUE_WORDS, READ, RIGHT_READ, SHORT_BUFFER, UNEXPECTED,
+    Controller, HostGiven, InProgress, Operation, Progress, Queue, Refusal, Started, Stepped,
+    WholeDone, WordGiven, BUSY, DENIED, INVALID, MALFORMED, NONE, ONES, OUT_OF_RANGE, PROGRAM,
+    QUEUE_EMPTY, QUEUE_FULL, QUEUE_WORDS, READ, RIGHT_READ, SHORT_BUFFER, UNEXPECTED,
 };
-use checks::{counts, data_rights, not_ready, not_ready_with, operation_refusal, valid};
+use checks::{counts, data_rights, lacking, not_ready, not_ready_with, operation_refusal, valid};
 use queue::{add, take_oldest};
 use words::{erase, erased, place, program, put, read, PAGE_BYTES, WORD_BYTES};
 
 pub use rounds::round;
 
-pub fn start(c: &mut Controller, operation: Operation) -> u8 {
+pub fn start(c: &mut Controller, operation: Operation) -> Started {
     if !valid(c) {
-        return INVALID;
+        return Refusal::from(INVALID).into();
     }
     if let Some(refusal) = not_ready(c) {
-        return refusal;
+        return Refusal::from(refusal).into();
     }
     if c.in_progress != InProgress::Nothing {
-        return BUSY;
+        return Refusal::from(BUSY).into();
     }
     let refusal = operation_refusal(c, &operation);
-    record(c, refusal, operation.address);
+    record(c, refusal.number, operation.address);
     let moved = 0;
-    match (operation.kind, refusal) {
+    match (operation.kind, refusal.number) {
         (READ, NONE) => {
             c.in_progress = InProgress::Read {
                 operation,
@@ -53,7 +53,7 @@ pub fn start(c: &mut Controller, operation: Operation) -> u8 {
         (_, NONE) => c.in_progress = InProgress::Erase { operation, moved },
         _ => {}
     }
-    refusal
+    refusal.into()
 }
 
 pub fn step(c: &mut Controller, image: &mut [u32]) -> Stepped {
@@ -147,11 +147,12 @@ pub fn push(c: &mut Controller, word: u32) -> u8 {
 }
 
 pub fn pop(c: &mut Controller) -> WordGiven {
+    let refused = |refusal| WordGiven { refusal, word: 0 };
     if !valid(c) {
-        return word_refused(INVALID);
+        return refused(INVALID);
     }
     if c.read_queue.length == 0 {
-        return word_refused(QUEUE_EMPTY);
+        return refused(QUEUE_EMPTY);
     }
     WordGiven {
         refusal: NONE,
@@ -165,65 +166,75 @@ pub fn whole(
     image: &mut [u32],
     buffer: &mut [u32],
 ) -> WholeDone {
-    let done = |refusal, bits| WholeDone { refusal, bits };
+    let done = |refusal: Refusal, bits| WholeDone {
+        refusal: refusal.number,
+        decider: refusal.decider,
+        bits,
+    };
     if let Some(refusal) = not_ready_with(c, image) {
-        return done(refusal, 0);
+        return done(refusal.into(), 0);
     }
     let queued = c.read_queue.length + c.program_queue.length;
     if c.in_progress != InProgress::Nothing || queued > 0 {
-        return done(BUSY, 0);
+        return done(BUSY.into(), 0);
     }
     let refusal = operation_refusal(c, &operation);
     let count = operation.count as usize;
-    if refusal != MALFORMED && counts(&operation) && buffer.len() < count {
-        return done(SHORT_BUFFER, 0);
+    if refusal.number != MALFORMED && counts(&operation) && buffer.len() < count {
+        return done(SHORT_BUFFER.into(), 0);
     }
-    record(c, refusal, operation.address);
+    record(c, refusal.number, operation.address);
     let d = c.data_pages;
-    match (operation.kind, refusal) {
+    let bits = match (operation.kind, refusal.number) {
         (READ, NONE) => {
             read(&mut buffer[..count], image, d, &operation);
             c.read_queue = Queue::default();
-            done(NONE, 0)
+            0
         }
         (READ, DENIED) => {
             buffer[..count].fill(ONES);
             c.read_queue = Queue::default();
-            done(DENIED, 0)
+            0
         }
         (PROGRAM, NONE) => {
             c.program_queue = Queue::default();
-            done(NONE, program(image, &buffer[..count], d, &operation))
+            program(image, &buffer[..count], d, &operation)
         }
-        (_, NONE) => done(NONE, erase(&mut image[erased(d, &operation)])),
-        _ => done(refusal, 0),
-    }
+        (_, NONE) => erase(&mut image[erased(d, &operation)]),
+        _ => 0,
+    };
+    done(refusal, bits)
 }
 
-pub fn host_read(c: &Controller, image: &[u32], address: u32) -> WordGiven {
+pub fn host_read(c: &Controller, image: &[u32], address: u32) -> HostGiven {
     match not_ready_with(c, image) {
-        Some(refusal) => word_refused(refusal),
+        Some(refusal) => host_refused(refusal.into()),
         None => fetch(c, image, address),
     }
 }
 
-fn word_refused(refusal: u8) -> WordGiven {
-    WordGiven { refusal, word: 0 }
+fn host_refused(refusal: Refusal) -> HostGiven {
+    HostGiven {
+        refusal: refusal.number,
+        decider: refusal.decider,
+        word: 0,
+    }
 }
 
 /// A host read of a controller that is ready.
-fn fetch(c: &Controller, image: &[u32], address: u32) -> WordGiven {
+fn fetch(c: &Controller, image: &[u32], address: u32) -> HostGiven {
     if !address.is_multiple_of(WORD_BYTES) {
-        return word_refused(MALFORMED);
+        return host_refused(MALFORMED.into());
     }
     if address >= 2 * c.data_pages * PAGE_BYTES {
-        return word_refused(OUT_OF_RANGE);
+        return host_refused(OUT_OF_RANGE.into());
     }
-    if data_rights(c, address / PAGE_BYTES) & RIGHT_READ == 0 {
-        return word_refused(DENIED);
+    if let Some(decider) = lacking(data_rights(c, address / PAGE_BYTES), RIGHT_READ) {
+        return host_refused(Refusal::denied(decider));
     }
-    WordGiven {
+    HostGiven {
         refusal: NONE,
+        decider: None,
         word: image[place(c.data_pages, &Operation::default(), address)],
     }
 }

@@ -2,13 +2,13 @@
 
 use super::checks::not_ready_with;
 use super::words::{PAGE_BYTES, WORD_BYTES};
-use super::{fetch, move_word, step_refused, word_refused};
+use super::{fetch, host_refused, move_word, step_refused};
 use crate::model::{Controller, InProgress, Rounded, Turn, MOST_LOST, QUEUE_WORDS};
 
 pub fn round(c: &mut Controller, image: &mut [u32], host: Option<u32>, steps: bool) -> Rounded {
     if let Some(refusal) = not_ready_with(c, image) {
         return Rounded {
-            host: host.map(|_| word_refused(refusal)).into(),
+            host: host.map(|_| host_refused(refusal.into())).into(),
             step: steps.then(|| step_refused(refusal)).into(),
         };
     }

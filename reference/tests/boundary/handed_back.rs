@@ -23,7 +23,7 @@ fn refused_calls(c: Controller) -> Vec<(&'static str, u32, Controller)> {
         }),
         ("bank erase", |c| calls::set_bank_erase(c, 0, 1)),
         ("clear", calls::clear_errors),
-        ("start", |c| calls::start(c, Operation::default())),
+        ("start", |c| calls::start(c, Operation::default()).answer),
         ("push", |c| calls::push(c, 5)),
         ("RMA", |c| calls::rma(c, &mut image())),
         ("initialise", |c| calls::initialise(c, &image()).answer),
@@ -149,7 +149,7 @@ fn unused_places_come_back_from_a_valid_state() {
     assert_changed(&after_pop, &c, &[]);
     assert_changed(&after_step, &c, &[]);
     let malformed = data(9, 0x44, 0);
-    let (started, after_start) = left(c, |c| calls::start(c, malformed));
+    let (started, after_start) = left(c, |c| calls::start(c, malformed).answer);
     let (run, after_run) = left(c, |c| {
         calls::run(c, &mut image(), malformed, &mut []).answer
     });

@@ -3,6 +3,7 @@
 
 mod breakage;
 mod conversion;
+mod deciders;
 mod handed_back;
 mod helpers;
 mod meaning;

@@ -20,7 +20,7 @@ fn kinds_allowed(c: Controller, operation: flat::Operation) -> Vec<u32> {
             kind: *kind,
             ..operation
         };
-        left(c, |c| calls::start(c, operation)).0 == 0
+        left(c, |c| calls::start(c, operation)).0.answer == 0
     };
     [READ, PROGRAM, PAGE_ERASE]
         .into_iter()
@@ -128,7 +128,7 @@ fn each_bank_erase_permission_is_understood() {
         let c = with(&ready_without_rights(), &format!("bank_erase[{bank}]"), 1);
         for other in 0..2 {
             let erase = data(BANK_ERASE, other * D * 1024, 0);
-            let (answer, _) = left(c, |c| calls::start(c, erase));
+            let (answer, _) = left(c, |c| calls::start(c, erase).answer);
             assert_eq!(answer, if other == bank { 0 } else { 9 });
         }
     }
@@ -144,7 +144,7 @@ fn each_input_is_understood() {
         c.provision_enabled = provision;
         c.seeds_locked = locked;
         for (address, answer) in [(0x400, creator), (0x800, owner)] {
-            let (given, _) = left(c, |c| calls::start(c, info(READ, 0, address, 1)));
+            let (given, _) = left(c, |c| calls::start(c, info(READ, 0, address, 1)).answer);
             assert_eq!(given, answer);
         }
     }

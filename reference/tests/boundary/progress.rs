@@ -48,7 +48,7 @@ fn each_field_of_a_started_operation_is_left_in_progress() {
         ),
     ] {
         for base in [ready(), with_old_progress(ready())] {
-            let (answer, after) = left(base, |c| calls::start(c, operation));
+            let (answer, after) = left(base, |c| calls::start(c, operation).answer);
             let progress = flat::Progress {
                 operation,
                 moved: 0,
@@ -75,7 +75,7 @@ fn each_large_field_of_an_operation_counts_as_255() {
             },
         ];
         for operation in malformed {
-            let (answer, after) = left(ready(), |c| calls::start(c, operation));
+            let (answer, after) = left(ready(), |c| calls::start(c, operation).answer);
             assert_eq!(answer, 5, "{operation:?}");
             let recorded = [("recorded", 1 << 5), ("last_address", 0x0404)];
             assert_changed(&after, &ready(), &recorded);
@@ -84,7 +84,7 @@ fn each_large_field_of_an_operation_counts_as_255() {
             info_type: large,
             ..read
         };
-        let (answer, after) = left(ready(), |c| calls::start(c, unused));
+        let (answer, after) = left(ready(), |c| calls::start(c, unused).answer);
         assert_eq!(answer, 0);
         assert_eq!(after.progress.operation.info_type, 255);
         assert_changed(
@@ -99,7 +99,7 @@ fn each_large_field_of_an_operation_counts_as_255() {
 fn a_denied_read_is_in_progress_with_nothing_readable() {
     let operation = data(READ, 0x0404, 3);
     let (answer, mut after) = left(with_old_progress(ready_without_rights()), |c| {
-        calls::start(c, operation)
+        calls::start(c, operation).answer
     });
     assert_eq!(answer, 9);
     assert_changed(
@@ -244,7 +244,7 @@ fn each_recorded_kind_has_its_bit_and_its_address() {
         (data(PROGRAM, 0x3C, 2), 8),
         (data(PROGRAM, 0x40, 1), 9),
     ] {
-        let (given, after) = left(c, |c| calls::start(c, operation));
+        let (given, after) = left(c, |c| calls::start(c, operation).answer);
         kinds |= 1 << answer;
         assert_eq!(given, answer);
         assert_changed(

@@ -48,7 +48,7 @@ fn a_whole_operation_tells_its_bits_and_uses_its_buffer() {
     let mut buffer = [0x1234_5678, 0xFFFF_0000, 0x5555_5555];
     let mut c = ready();
     let given = calls::run(&mut c, &mut flash, data(PROGRAM, 0x4404, 2), &mut buffer);
-    assert_eq!((given.answer, given.bits), (0, 19 + 16));
+    assert_eq!((given.answer, given.decider, given.bits), (0, 255, 19 + 16));
     assert_eq!(c, ready());
     assert_eq!(buffer, [0x1234_5678, 0xFFFF_0000, 0x5555_5555]);
     assert_eq!(flash[7_681..7_684], [0x1234_5678, 0xFFFF_0000, u32::MAX]);
@@ -94,12 +94,12 @@ fn a_view_tells_where_each_page_starts() {
     for page in 0..2 * D {
         let given = calls::view(&ready(), &image, page);
         let start = page * 256 + if page < D { 0 } else { 13 * 256 };
-        assert_eq!((given.answer, given.start), (0, start));
+        assert_eq!((given.answer, given.decider, given.start), (0, 255, start));
     }
     let given = calls::view(&ready(), &image, 2 * D);
-    assert_eq!((given.answer, given.start), (7, 0));
+    assert_eq!((given.answer, given.decider, given.start), (7, 255, 0));
     let given = calls::view(&ready_without_rights(), &image, 5);
-    assert_eq!((given.answer, given.start), (9, 0));
+    assert_eq!((given.answer, given.decider, given.start), (9, 8, 0));
 }
 
 #[test]
@@ -107,10 +107,10 @@ fn a_host_read_tells_the_word() {
     let image = image();
     for (address, place) in [(0, 0), (0x3FFC, 4_095), (0x4000, 7_424), (0x7FFC, 11_519)] {
         let given = calls::host_read(&ready(), &image, address);
-        assert_eq!((given.answer, given.word), (0, place));
+        assert_eq!((given.answer, given.decider, given.word), (0, 255, place));
     }
     let given = calls::host_read(&ready_without_rights(), &image, 0x40);
-    assert_eq!((given.answer, given.word), (9, 0));
+    assert_eq!((given.answer, given.decider, given.word), (9, 8, 0));
 }
 
 /// Every data page and the three special pages become ones, every other page stays.

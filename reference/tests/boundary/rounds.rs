@@ -4,8 +4,8 @@
 use crate::helpers::*;
 use reference::interface::calls;
 use reference::interface::flat::{
-    Controller, Rounded, MOVEMENT_MOVED, MOVEMENT_NONE, MOVEMENT_STALLED, PAGE_ERASE, TURN_SERVED,
-    TURN_UNASKED, TURN_WAITING,
+    Controller, Rounded, MOVEMENT_MOVED, MOVEMENT_NONE, MOVEMENT_STALLED, NO_DECIDER, PAGE_ERASE,
+    TURN_SERVED, TURN_UNASKED, TURN_WAITING,
 };
 
 /// Of each bank, the byte address of a word and what stands there.
@@ -26,6 +26,7 @@ const LOST: [&str; 2] = ["lost_turns[0]", "lost_turns[1]"];
 const NOBODY: Rounded = Rounded {
     host_turn: TURN_UNASKED,
     host_answer: 0,
+    host_decider: NO_DECIDER,
     word: 0,
     step_turn: TURN_UNASKED,
     step_answer: 0,
@@ -114,6 +115,47 @@ fn each_refusal_lands_on_its_own_side() {
     for (address, answer) in [(0x4001, 5), (0x8000, 7), (u32::MAX - 3, 7)] {
         let (told, _) = contest(erasing(0), address);
         assert_eq!(told, step_moved(0, host_served(answer, 0)));
+    }
+}
+
+/// Each region and the default rights; a host that waits, or asks nothing, is told of nobody.
+#[test]
+fn each_decider_of_a_host_read_is_told() {
+    for decider in 0..=8 {
+        let mut c = with(
+            &erasing(0),
+            "default_rights",
+            if decider == 8 { 6 } else { 7 },
+        );
+        if let Some(region) = c.regions.get_mut(decider as usize) {
+            region.page_count = 2 * D;
+            region.on = 1;
+            region.rights = 6;
+        }
+        let denied = Rounded {
+            host_decider: decider,
+            ..host_served(9, 0)
+        };
+        let (address, other_bank) = (HOST[0].0, HOST[1].0);
+        let alone = calls::round(&mut c.clone(), &mut image(), 1, address, 0);
+        assert_eq!(alone, denied);
+        let (contested, _) = contest(c, address);
+        let step_waits = Rounded {
+            step_turn: TURN_WAITING,
+            movement: MOVEMENT_STALLED,
+            ..denied
+        };
+        assert_eq!(contested, step_waits);
+        let (both, _) = contest(c, other_bank);
+        assert_eq!(both, step_moved(0, denied));
+        let (host_waits, _) = contest(with(&c, LOST[0], 5), address);
+        let waiting = Rounded {
+            host_turn: TURN_WAITING,
+            ..NOBODY
+        };
+        assert_eq!(host_waits, step_moved(0, waiting));
+        let step = calls::round(&mut c.clone(), &mut image(), 0, address, 1);
+        assert_eq!(step, step_moved(0, NOBODY));
     }
 }
 

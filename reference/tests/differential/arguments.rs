@@ -114,13 +114,26 @@ impl Arguments<'_> {
 
     // -- pages and addresses -------------------------------------------------
 
-    /// A data page: of a region's or bank's border, else any; rarely past the last.
+    /// A data page: of a region's or bank's border, or held by a region, else any; rarely past the last.
     pub fn data_page(&mut self) -> u32 {
-        match self.rng.below(10) {
+        match self.rng.below(14) {
             0..=3 => self.border_page(),
             4 => 2 * self.data_pages(),
+            5..=8 => self.held_page(),
             _ => self.rng.below(2 * self.data_pages()),
         }
+    }
+
+    /// A page of a region that is on, if it holds one; else any.
+    fn held_page(&mut self) -> u32 {
+        let pages = 2 * self.data_pages();
+        let region = self.state.regions[self.rng.below(8) as usize];
+        let count = region.page_count.min(pages);
+        if !region.on || count == 0 {
+            return self.rng.below(pages);
+        }
+        let page = region.first_page.saturating_add(self.rng.below(count));
+        page.min(pages)
     }
 
     fn border_page(&mut self) -> u32 {
@@ -156,11 +169,11 @@ impl Arguments<'_> {
     /// The offset of a word in its page, often beside the end of a window or of the page.
     fn offset(&mut self) -> u32 {
         let window = 64 * self.rng.below(16);
-        match self.rng.below(6) {
+        match self.rng.below(7) {
             0 => 0,
-            1 => PAGE_BYTES - 4 * self.rng.between(1, 4),
-            2 => window,
-            3 => window + 64 - 4 * self.rng.between(1, 3),
+            1 | 2 => PAGE_BYTES - 4 * self.rng.between(1, 4),
+            3 => window,
+            4 => window + 64 - 4 * self.rng.between(1, 3),
             _ => 4 * self.rng.below(PAGE_WORDS),
         }
     }

@@ -4,7 +4,8 @@
 use crate::layout::PAGE_WORDS;
 use crate::rng::Rng;
 use reference::interface::{
-    asked_byte, asked_flag, asked_operation, asked_region, asked_setting, calls as library, flat,
+    asked_byte, asked_flag, asked_operation, asked_region, asked_setting, calls as library,
+    decider_number, flat,
 };
 use reference::model::{self, Controller};
 use std::ops::Range;
@@ -126,6 +127,8 @@ impl Memory {
 pub struct Outcome {
     /// Of a round its step's, or its host's if no step is asked.
     pub answer: u32,
+    /// The number of who decided, 255 for nobody; None of a call that reports none, and of a round, which tells its host's.
+    pub decider: Option<u32>,
     pub word: u32,
     pub bits: u32,
     pub movement: u32,
@@ -147,6 +150,9 @@ impl Outcome {
     /// The answer, and the values that are not 0.
     pub fn shown(&self) -> String {
         let mut text = format!("answer {}", self.answer);
+        if let Some(decider) = self.decider.filter(|number| *number != flat::NO_DECIDER) {
+            text += &format!(", decider {decider}");
+        }
         for (name, value) in [
             ("word", self.word),
             ("bits", self.bits),
@@ -186,7 +192,6 @@ pub fn on_model(call: &Call, c: &mut flat::Controller, memory: &mut Memory) -> O
         } => library::set_info_page(c, bank, info_type, page, setting),
         Call::SetBankErase { bank, on } => library::set_bank_erase(c, bank, on),
         Call::ClearErrors => library::clear_errors(c),
-        Call::Start { operation } => library::start(c, operation),
         Call::Push { word } => library::push(c, word),
         Call::Rma { image_words } => library::rma(c, memory.image(image_words)),
         _ => return on_model_with_values(call, c, memory),
@@ -208,6 +213,7 @@ fn on_model_with_values(call: &Call, c: &mut flat::Controller, memory: &mut Memo
                 ..Outcome::default()
             }
         }
+        Call::Start { operation } => started(library::start(c, operation)),
         Call::Step { image_words } => stepped(library::step(c, memory.image(image_words))),
         Call::Run {
             operation,
@@ -216,18 +222,13 @@ fn on_model_with_values(call: &Call, c: &mut flat::Controller, memory: &mut Memo
             buffer_seed,
         } => {
             let (image, buffer) = memory.lend(image_words, buffer_words, buffer_seed);
-            let given = library::run(c, image, operation, buffer);
-            Outcome {
-                answer: given.answer,
-                bits: given.bits,
-                ..Outcome::default()
-            }
+            completed(library::run(c, image, operation, buffer))
         }
         Call::Pop => fetched(library::pop(c)),
         Call::HostRead {
             address,
             image_words,
-        } => fetched(library::host_read(c, memory.image(image_words), address)),
+        } => host_fetched(library::host_read(c, memory.image(image_words), address)),
         Call::View { page, image_words } => {
             viewed(library::view(c, memory.image(image_words), page))
         }
@@ -239,6 +240,23 @@ fn on_model_with_values(call: &Call, c: &mut flat::Controller, memory: &mut Memo
             asked.step_asks,
         )),
         _ => unreachable!("it hands out its answer alone"),
+    }
+}
+
+fn started(given: flat::Started) -> Outcome {
+    Outcome {
+        answer: given.answer,
+        decider: Some(given.decider),
+        ..Outcome::default()
+    }
+}
+
+fn completed(given: flat::Completed) -> Outcome {
+    Outcome {
+        answer: given.answer,
+        decider: Some(given.decider),
+        bits: given.bits,
+        ..Outcome::default()
     }
 }
 
@@ -259,12 +277,22 @@ fn fetched(given: flat::Fetched) -> Outcome {
     }
 }
 
+fn host_fetched(given: flat::HostFetched) -> Outcome {
+    Outcome {
+        answer: given.answer,
+        decider: Some(given.decider),
+        word: given.word,
+        ..Outcome::default()
+    }
+}
+
 /// Refused, the view is empty.
 fn viewed(given: flat::Viewed) -> Outcome {
     let start = given.start as usize;
     let length = if given.answer == 0 { PAGE_WORDS } else { 0 } as usize;
     Outcome {
         answer: given.answer,
+        decider: Some(given.decider),
         view: start..start + length,
         ..Outcome::default()
     }
@@ -323,7 +351,6 @@ pub fn on_second(call: &Call, state: &mut Option<Controller>, memory: &mut Memor
             Outcome::answer(model::set_bank_erase_permission(c, bank, asked_flag(on)))
         }
         Call::ClearErrors => Outcome::answer(model::clear(c)),
-        Call::Start { operation } => Outcome::answer(model::start(c, asked_operation(operation))),
         Call::Push { word } => Outcome::answer(model::push(c, word)),
         Call::Rma { image_words } => Outcome::answer(model::rma(c, memory.image(image_words))),
         _ => on_second_with_values(call, c, memory),
@@ -333,6 +360,7 @@ pub fn on_second(call: &Call, state: &mut Option<Controller>, memory: &mut Memor
 fn on_second_with_values(call: &Call, c: &mut Controller, memory: &mut Memory) -> Outcome {
     match *call {
         Call::Initialise { image_words } => seeded(model::initialise(c, memory.image(image_words))),
+        Call::Start { operation } => started(model::start(c, asked_operation(operation)).into()),
         Call::Step { image_words } => stepped(model::step(c, memory.image(image_words)).into()),
         Call::Run {
             operation,
@@ -341,20 +369,17 @@ fn on_second_with_values(call: &Call, c: &mut Controller, memory: &mut Memory) -
             buffer_seed,
         } => {
             let (image, buffer) = memory.lend(image_words, buffer_words, buffer_seed);
-            let given = model::whole(c, asked_operation(operation), image, buffer);
-            Outcome {
-                bits: given.bits,
-                ..Outcome::answer(given.refusal)
-            }
+            completed(model::whole(c, asked_operation(operation), image, buffer).into())
         }
         Call::Pop => fetched(model::pop(c).into()),
         Call::HostRead {
             address,
             image_words,
-        } => fetched(model::host_read(c, memory.image(image_words), address).into()),
+        } => host_fetched(model::host_read(c, memory.image(image_words), address).into()),
         Call::View { page, image_words } => {
             let given = model::view(c, memory.image(image_words), page);
             Outcome {
+                decider: Some(decider_number(given.decider)),
                 view: given.start..given.start + given.length,
                 ..Outcome::answer(given.refusal)
             }

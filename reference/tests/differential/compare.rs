@@ -2,7 +2,7 @@
 //! the lent memory.
 
 use crate::calls::{Call, Memory, Outcome};
-use crate::table;
+use crate::{deciders, table};
 use reference::interface::{fields, flat, from_reference, to_reference};
 use reference::model::{self, Controller};
 use std::ops::Range;
@@ -18,7 +18,8 @@ pub fn outcomes(call: &Call, model: &Outcome, second: &Outcome) -> Compared {
             second.shown()
         ));
     }
-    match table::broken_rule(call, model) {
+    let broken = table::broken_rule(call, model).or_else(|| deciders::broken_rule(call, model));
+    match broken {
         Some(rule) => Err(rule),
         None => Ok(()),
     }

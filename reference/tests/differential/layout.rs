@@ -14,6 +14,11 @@ pub const INFO_PAGES: u32 = 13;
 /// Where each type begins among its bank's information pages, and how many it has.
 const INFO_TYPES: [(u32, u32); 3] = [(0, 10), (10, 1), (11, 2)];
 
+/// Where a type begins among its bank's information pages.
+pub fn type_begin(info_type: u32) -> u32 {
+    INFO_TYPES[info_type as usize].0
+}
+
 /// A type that is none has no pages; one stands for it, so that numbers can be drawn.
 pub fn pages_of_type(info_type: u32) -> u32 {
     let of_type = INFO_TYPES.get(info_type as usize);
@@ -41,7 +46,7 @@ pub fn first_page_of_bank(data_pages: u32, address: u32) -> u32 {
 pub fn image_page(data_pages: u32, operation: &Operation, address: u32) -> u32 {
     let begin = match operation.partition {
         flat::DATA => 0,
-        _ => data_pages + INFO_TYPES[operation.info_type as usize].0,
+        _ => data_pages + type_begin(operation.info_type),
     };
     first_page_of_bank(data_pages, address) + begin + address / PAGE_BYTES % data_pages
 }

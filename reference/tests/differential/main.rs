@@ -8,8 +8,10 @@ mod arguments;
 mod bench;
 mod calls;
 mod compare;
+mod deciders;
 mod generator;
 mod layout;
+mod pages;
 mod panics;
 mod rng;
 mod run;
@@ -67,7 +69,7 @@ fn the_model_and_the_second_program_agree() {
     let missing = tally.never_met();
     assert!(
         missing.is_empty(),
-        "01 allows, but no call met: {missing:?}"
+        "the rules allow, but no call met: {missing:?}"
     );
 }
 

@@ -172,6 +172,13 @@ fn forgets_the_host(_: &Call, outcome: &mut Outcome) {
     }
 }
 
+/// A second program that names the default rights instead of region 5.
+fn never_names_region_5(_: &Call, outcome: &mut Outcome) {
+    if outcome.decider == Some(5) {
+        outcome.decider = Some(flat::BY_DEFAULT);
+    }
+}
+
 /// What a run against an altered second program is shrunk to.
 fn found(alter: Alter) -> (Failure, String) {
     let failure = run(1, 200_000, alter).err().expect("the run finds it");
@@ -204,6 +211,16 @@ fn a_wrong_value_is_found_and_shrunk() {
     let (small, text) = found(invents_bits);
     assert!(small.turns.len() <= 4, "{text}");
     assert!(small.why.contains("bits "), "{text}");
+}
+
+#[test]
+fn a_wrong_decider_is_found_and_shrunk() {
+    let (small, text) = found(never_names_region_5);
+    assert!(small.turns.len() <= 4, "{text}");
+    assert!(
+        small.why.contains("the model gives answer 9, decider 5"),
+        "{text}"
+    );
 }
 
 /// From a lost count that stands at the start, or after the rounds that raise it.

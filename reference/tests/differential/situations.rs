@@ -3,6 +3,9 @@
 
 use crate::calls::{Call, Outcome};
 use crate::layout::{bank, next_address, MOST_DATA_PAGES, PAGE_BYTES};
+use crate::pages::{
+    allows, closed, deniers_of_read, holding, right, rights, setting, span, OWNER_PAGE,
+};
 use reference::interface::flat::{self, Controller, Operation};
 use reference::model;
 
@@ -19,7 +22,7 @@ pub struct Met<'a> {
 
 type Situation = (&'static str, fn(&Met) -> bool);
 
-pub const SITUATIONS: [Situation; 40] = [
+pub const SITUATIONS: [Situation; 53] = [
     ("overlapping regions with other rights", |met| {
         let page = met.page();
         met.judged() && page.is_some_and(|page| overlap(met.before, page))
@@ -32,8 +35,8 @@ pub const SITUATIONS: [Situation; 40] = [
         met.answer(0) && met.read_span().is_some_and(|span| met.over_border(span))
     }),
     ("information span over its bank's end", |met| {
-        let span = met.operation(flat::READ).filter(|o| o.partition == 1);
-        met.answer(7) && span.is_some_and(|o| met.over_border(pages(o)))
+        let read = met.operation(flat::READ).filter(|o| o.partition == 1);
+        met.answer(7) && read.is_some_and(|o| met.over_border(span(&o)))
     }),
     ("program up to its window's end", |met| {
         let program = met.operation(flat::PROGRAM);
@@ -162,6 +165,59 @@ pub const SITUATIONS: [Situation; 40] = [
     ("refused step beside a host", |met| {
         met.host_served() && met.outcome.round.step_answer == 12
     }),
+    ("lower region denies, a higher would allow", |met| {
+        let page = met.page().filter(|_| met.answer(9));
+        let mut others = page
+            .iter()
+            .flat_map(|&page| holding(met.before, page).skip(1));
+        others.any(|(_, region)| region.rights & 1 == 1)
+    }),
+    ("read denied by two regions", |met| {
+        let regions = met.deniers().into_iter().flatten().filter(|&d| d < 8);
+        differ(regions)
+    }),
+    ("read denied by a region, then the default", |met| {
+        let mut deniers = met.deniers().into_iter().flatten();
+        let region = deniers.next().is_some_and(|first| first < 8);
+        region && deniers.any(|later| later == flat::BY_DEFAULT)
+    }),
+    ("info read denied past its first page", |met| {
+        let deniers = met.deniers();
+        met.info_operation().is_some() && deniers.first() == Some(&None)
+    }),
+    ("read denied by a setting, then the seed lock", |met| {
+        let mut deniers = met.deniers().into_iter().flatten();
+        let setting = deniers.next() == Some(flat::BY_PAGE_SETTING);
+        setting && deniers.any(|later| later == flat::BY_SEED_LOCK)
+    }),
+    ("read denied by the seed lock, then a setting", |met| {
+        let mut deniers = met.deniers().into_iter().flatten();
+        let lock = deniers.next() == Some(flat::BY_SEED_LOCK);
+        lock && deniers.any(|later| later == flat::BY_PAGE_SETTING)
+    }),
+    ("closed seed page that its setting allows", |met| {
+        met.on_closed_page(|o, page| allows(page, right(o.kind)))
+    }),
+    ("closed seed page that is also off", |met| {
+        met.on_closed_page(|_, page| page.on == 0)
+    }),
+    ("creator page closed by the lock alone", |met| {
+        met.before.provision_enabled == 1 && met.on_closed_page(|_, _| true)
+    }),
+    ("owner page closed without provision", |met| {
+        met.on_closed_page(|o, _| o.address / PAGE_BYTES == OWNER_PAGE)
+    }),
+    ("page off that has the right", |met| {
+        met.on_open_page(|o, page| page.on == 0 && page.rights & right(o.kind) != 0)
+    }),
+    ("page on that lacks the right", |met| {
+        met.on_open_page(|o, page| page.on == 1 && page.rights & right(o.kind) == 0)
+    }),
+    ("bank erase denied, its page erasable", |met| {
+        let erase = met.operation(flat::BANK_ERASE).filter(|_| met.answer(9));
+        let right = right(flat::PAGE_ERASE);
+        erase.is_some_and(|o| rights(met.before, o.address / PAGE_BYTES) & right != 0)
+    }),
 ];
 
 impl Met<'_> {
@@ -189,7 +245,41 @@ impl Met<'_> {
     /// The first and the last page of a data read.
     fn read_span(&self) -> Option<(u32, u32)> {
         let read = self.operation(flat::READ)?;
-        (read.partition == flat::DATA).then(|| pages(read))
+        (read.partition == flat::DATA).then(|| span(&read))
+    }
+
+    /// Of each page of a denied read, in order, who denies it.
+    fn deniers(&self) -> Vec<Option<u32>> {
+        let read = self.operation(flat::READ).filter(|_| self.answer(9));
+        read.map_or(Vec::new(), |read| deniers_of_read(self.before, &read))
+    }
+
+    /// An information operation that is judged by its pages.
+    fn info_operation(&self) -> Option<Operation> {
+        let judged = |o: &Operation| o.partition == flat::INFORMATION && o.kind < flat::BANK_ERASE;
+        self.call.operation().filter(judged)
+    }
+
+    /// An information operation that is denied, and the setting of its first page.
+    fn denied_setting(&self) -> Option<(Operation, flat::PageSetting)> {
+        let operation = self.info_operation().filter(|_| self.answer(9))?;
+        let page = operation.address / PAGE_BYTES;
+        Some((operation, setting(self.before, operation.info_type, page)))
+    }
+
+    /// It is denied at its first page, which the inputs close.
+    fn on_closed_page(&self, is: impl Fn(Operation, flat::PageSetting) -> bool) -> bool {
+        let seed_lock = self.outcome.decider == Some(flat::BY_SEED_LOCK);
+        let first_closed = |o: &Operation| closed(self.before, o.info_type, o.address / PAGE_BYTES);
+        let denied = self.denied_setting().filter(|(o, _)| first_closed(o));
+        seed_lock && denied.is_some_and(|(operation, setting)| is(operation, setting))
+    }
+
+    /// It is denied by a setting.
+    fn on_open_page(&self, is: impl Fn(Operation, flat::PageSetting) -> bool) -> bool {
+        let by_setting = self.outcome.decider == Some(flat::BY_PAGE_SETTING);
+        let denied = self.denied_setting();
+        by_setting && denied.is_some_and(|(operation, setting)| is(operation, setting))
     }
 
     fn over_border(&self, (first, last): (u32, u32)) -> bool {
@@ -282,15 +372,6 @@ impl Met<'_> {
     }
 }
 
-/// The first and the last page of an operation's words.
-fn pages(operation: Operation) -> (u32, u32) {
-    let last = u64::from(operation.address) + 4 * u64::from(operation.count.max(1)) - 1;
-    (
-        operation.address / PAGE_BYTES,
-        (last / u64::from(PAGE_BYTES)) as u32,
-    )
-}
-
 /// All rights that stand in the state.
 fn rights_of(c: &Controller) -> impl Iterator<Item = u32> + '_ {
     let regions = c.regions.iter().map(|r| r.rights);
@@ -298,21 +379,14 @@ fn rights_of(c: &Controller) -> impl Iterator<Item = u32> + '_ {
     regions.chain(info_pages).chain([c.default_rights])
 }
 
-fn holding(c: &Controller, page: u32) -> impl Iterator<Item = u32> + '_ {
-    let holds = move |r: &&flat::Region| {
-        r.on == 1 && r.first_page <= page && page - r.first_page < r.page_count
-    };
-    c.regions.iter().filter(holds).map(|r| r.rights)
+fn overlap(c: &Controller, page: u32) -> bool {
+    differ(holding(c, page).map(|(_, region)| region.rights))
 }
 
-fn overlap(c: &Controller, page: u32) -> bool {
-    let mut rights = holding(c, page);
-    match rights.next() {
-        Some(first) => rights.any(|other| other != first),
+/// Not all are the first.
+fn differ(mut numbers: impl Iterator<Item = u32>) -> bool {
+    match numbers.next() {
+        Some(first) => numbers.any(|other| other != first),
         None => false,
     }
-}
-
-fn rights(c: &Controller, page: u32) -> u32 {
-    holding(c, page).next().unwrap_or(c.default_rights)
 }

@@ -1,6 +1,7 @@
 //! Which call may answer what, by documents 01 and 02, and how often each pair was met.
 
 use crate::calls::{AskedInRound, Call, Outcome};
+use crate::deciders::{Named, PAIRS};
 use crate::layout::{DATA_PAGES, MOST_DATA_PAGES};
 use crate::situations::{Met, SITUATIONS};
 use reference::interface::flat;
@@ -8,7 +9,7 @@ use std::fmt::Write;
 
 const ANSWERS: usize = 14;
 const CALLS: usize = 18;
-/// So many calls meet every situation.
+/// So many calls meet every situation and every decider.
 const CALLS_THAT_MEET_ALL: u64 = 1_000_000;
 
 /// A call, or one side of a round, and the answers its rule allows.
@@ -200,6 +201,7 @@ pub struct Tally {
     pub calls: u64,
     pairs: [[u64; ANSWERS]; CALLS],
     movements: [[u64; 4]; WORKS.len()],
+    named: Named,
     situations: [u64; SITUATIONS.len()],
     data_pages: [u64; MOST_DATA_PAGES as usize + 1],
 }
@@ -210,6 +212,7 @@ impl Tally {
             calls: 0,
             pairs: [[0; ANSWERS]; CALLS],
             movements: [[0; 4]; WORKS.len()],
+            named: Named::default(),
             situations: [0; SITUATIONS.len()],
             data_pages: [0; MOST_DATA_PAGES as usize + 1],
         }
@@ -224,6 +227,7 @@ impl Tally {
         if let Some(work) = work_of(&met.before.progress).filter(|_| its_turn) {
             self.movements[work as usize][met.outcome.movement as usize] += 1;
         }
+        self.named.count(met.call, met.outcome);
         for (count, (_, holds)) in self.situations.iter_mut().zip(SITUATIONS) {
             *count += u64::from(holds(met));
         }
@@ -239,17 +243,19 @@ impl Tally {
             self.movements.as_flattened_mut(),
             other.movements.as_flattened(),
         );
+        self.named.add(&other.named);
         add_all(&mut self.situations, &other.situations);
         add_all(&mut self.data_pages, &other.data_pages);
     }
 
-    /// All that 01 allows and no call met. Few calls need not have met the rare situations.
+    /// All that the rules allow and no call met. Few calls need not have met the rare situations and deciders.
     pub fn never_met(&self) -> Vec<String> {
         let mut missing = self.pairs_never_met();
         missing.extend(self.movements_never_met());
         missing.extend(self.data_pages_never_met());
         if self.calls >= CALLS_THAT_MEET_ALL {
             missing.extend(self.situations_never_met());
+            missing.extend(self.named.never_met());
         }
         missing
     }
@@ -305,7 +311,7 @@ impl Tally {
             }
             text.push('\n');
         }
-        text + &self.movements_shown() + &self.situations_shown()
+        text + &self.movements_shown() + &self.named.shown() + &self.situations_shown()
     }
 
     fn movements_shown(&self) -> String {
@@ -330,13 +336,13 @@ impl Tally {
     }
 }
 
-fn add_all(mine: &mut [u64], theirs: &[u64]) {
+pub fn add_all(mine: &mut [u64], theirs: &[u64]) {
     for (mine, theirs) in mine.iter_mut().zip(theirs) {
         *mine += theirs;
     }
 }
 
-fn cell(allowed: bool, count: u64) -> String {
+pub fn cell(allowed: bool, count: u64) -> String {
     if allowed {
         format!("{count:>8}")
     } else {
@@ -371,7 +377,7 @@ fn what_01_does_not_allow_is_told() {
     assert!(broken_rule(&round, &unexpected(flat::TURN_WAITING)).is_none());
 }
 
-/// 89 pairs but for the one that cannot be met, 15 movements and 247 D; after many calls the situations too.
+/// 89 pairs but for the one that cannot be met, 15 movements and 247 D; after many calls the situations and deciders too.
 #[test]
 fn what_was_never_met_is_told() {
     let mut tally = Tally::new();
@@ -393,5 +399,6 @@ fn what_was_never_met_is_told() {
     assert_eq!(twice.calls, 2);
     assert_eq!(twice.never_met().len(), always - 2);
     twice.calls = CALLS_THAT_MEET_ALL;
-    assert_eq!(twice.never_met().len(), always - 2 + SITUATIONS.len());
+    let rare = SITUATIONS.len() + PAIRS;
+    assert_eq!(twice.never_met().len(), always - 2 + rare);
 }

@@ -122,7 +122,7 @@ pub fn region(first_page: u32, page_count: u32, rights: u8) -> Region {
 
 /// The answer of starting the operation from this very state.
 pub fn start_answer(c: &Controller, op: Operation) -> u8 {
-    start(&mut c.clone(), op)
+    start(&mut c.clone(), op).refusal
 }
 
 /// The kinds as the record's bits.
@@ -133,7 +133,7 @@ pub fn kinds(list: &[u8]) -> u32 {
 /// A ready controller with this operation started.
 pub fn started(op: Operation) -> Controller {
     let mut c = ready();
-    assert_eq!(start(&mut c, op), NONE);
+    assert_eq!(start(&mut c, op).refusal, NONE);
     c
 }
 
@@ -164,7 +164,7 @@ pub fn assert_start_recorded(c: &mut Controller, op: Operation, refusal: u8) {
     let mut expected = c.clone();
     expected.recorded |= 1 << refusal;
     expected.last_address = op.address;
-    assert_eq!(start(c, op), refusal);
+    assert_eq!(start(c, op).refusal, refusal);
     assert_eq!(*c, expected);
 }
 

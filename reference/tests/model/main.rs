@@ -2,6 +2,7 @@
 
 mod bench_sheet;
 mod common_mistakes;
+mod deciders;
 mod helpers;
 mod order_of_checks;
 mod plain_rust;

@@ -24,12 +24,15 @@ const WORST: Operation = Operation {
 
 #[test]
 fn start_checks_1_2_3_4_5_7_8_9() {
-    assert_eq!(start(&mut broken(disabled()), WORST), 1);
-    assert_eq!(start(&mut broken(uninitialised(D)), WORST), 1);
-    assert_eq!(start(&mut broken(started(data(READ, 0, 1))), WORST), 1);
-    assert_eq!(start(&mut disabled(), WORST), 2);
-    assert_eq!(start(&mut uninitialised(D), WORST), 3);
-    assert_eq!(start(&mut started(data(READ, 0, 1)), WORST), 4);
+    assert_eq!(start(&mut broken(disabled()), WORST).refusal, 1);
+    assert_eq!(start(&mut broken(uninitialised(D)), WORST).refusal, 1);
+    assert_eq!(
+        start(&mut broken(started(data(READ, 0, 1))), WORST).refusal,
+        1
+    );
+    assert_eq!(start(&mut disabled(), WORST).refusal, 2);
+    assert_eq!(start(&mut uninitialised(D), WORST).refusal, 3);
+    assert_eq!(start(&mut started(data(READ, 0, 1)), WORST).refusal, 4);
     let none = ready_without_rights();
     assert_eq!(start_answer(&none, WORST), 5);
     assert_eq!(start_answer(&none, data(PROGRAM, 0x8000, 17)), 7);

@@ -162,7 +162,7 @@ fn random_call(
         6 => clear(c),
         7 => host_read(c, image, rng.host_address()).refusal,
         8 => view(c, image, rng.below(34)).refusal,
-        9 | 10 => return (start(c, rng.operation()), true),
+        9 | 10 => return (start(c, rng.operation()).refusal, true),
         11 => return (whole(c, rng.operation(), image, buffer).refusal, true),
         12..=14 => push(c, rng.word()),
         15..=17 => pop(c).refusal,
@@ -248,7 +248,7 @@ fn by_parts(
     image: &mut [u32],
     buffer: &mut [u32],
 ) -> WholeDone {
-    let refusal = start(c, op);
+    let Started { refusal, decider } = start(c, op);
     let (mut bits, mut pushed, mut popped) = (0, 0, 0);
     while c.in_progress != InProgress::Nothing || c.read_queue.length > 0 {
         for _ in 0..rng.below(20) {
@@ -267,7 +267,11 @@ fn by_parts(
             }
         }
     }
-    WholeDone { refusal, bits }
+    WholeDone {
+        refusal,
+        decider,
+        bits,
+    }
 }
 
 #[test]

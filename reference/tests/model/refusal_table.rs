@@ -57,7 +57,7 @@ fn reset_takes_any_state() {
 /// Every call that needs a controller that is ready.
 fn assert_not_ready(c: &mut Controller, image: &mut Vec<u32>, refusal: u8) {
     let read = data(READ, 0, 1);
-    assert_refused(c, image, refusal, |c, _| start(c, read));
+    assert_refused(c, image, refusal, |c, _| start(c, read).refusal);
     assert_refused(c, image, refusal, |c, i| step(c, i).refusal);
     assert_refused(c, image, refusal, |c, _| push(c, 1));
     assert_refused(c, image, refusal, |c, i| {
@@ -93,7 +93,7 @@ fn row_4_an_operation_is_in_progress() {
     ] {
         let mut c = started(op);
         let mut image = patterned();
-        assert_refused(&mut c, &mut image, 4, |c, _| start(c, op));
+        assert_refused(&mut c, &mut image, 4, |c, _| start(c, op).refusal);
         assert_refused(&mut c, &mut image, 4, |c, i| {
             whole(c, op, i, &mut [0; 2]).refusal
         });
@@ -248,7 +248,7 @@ fn row_9_a_denied_read_is_recorded_and_starts_blank() {
             moved: 0,
             readable: 0,
         };
-        assert_eq!(start(&mut c, op), 9);
+        assert_eq!(start(&mut c, op).refusal, 9);
         assert_eq!(c, expected);
     }
 }
@@ -262,7 +262,7 @@ fn rows_5_to_9_add_up_and_the_last_address_stays() {
     assert_eq!(set_default_rights(&mut c, RIGHT_READ), NONE);
     assert_start_recorded(&mut c, data(PAGE_ERASE, 0x20, 2), 9);
     assert_start_recorded(&mut c, data(0, 0x31, 2), 5);
-    assert_eq!(start(&mut c, data(READ, 0x40, 1)), NONE);
+    assert_eq!(start(&mut c, data(READ, 0x40, 1)).refusal, NONE);
     assert_eq!((c.recorded, c.last_address), (kinds(&[5, 7, 8, 9]), 0x31));
 }
 
@@ -377,11 +377,26 @@ fn a_refusal_gives_no_word_no_bits_and_no_seeds() {
             bits: 0
         }
     );
-    assert_eq!(host_read(&c, image, 0), WordGiven { refusal, word: 0 });
+    assert_eq!(
+        host_read(&c, image, 0),
+        HostGiven {
+            refusal,
+            decider: None,
+            word: 0
+        }
+    );
     let done = whole(&mut c, data(BANK_ERASE, 0, 0), image, &mut []);
-    assert_eq!(done, WholeDone { refusal, bits: 0 });
+    assert_eq!(
+        done,
+        WholeDone {
+            refusal,
+            decider: None,
+            bits: 0
+        }
+    );
     let empty = View {
         refusal,
+        decider: None,
         start: 0,
         length: 0,
     };

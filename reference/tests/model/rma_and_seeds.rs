@@ -83,8 +83,8 @@ fn rma_does_not_ask_for_rights() {
 #[test]
 fn rma_empties_the_queues_disables_and_keeps_the_rest() {
     let mut c = ready();
-    assert_eq!(start(&mut c, data(9, 0x30, 1)), MALFORMED);
-    assert_eq!(start(&mut c, data(READ, 0, 3)), NONE);
+    assert_eq!(start(&mut c, data(9, 0x30, 1)).refusal, MALFORMED);
+    assert_eq!(start(&mut c, data(READ, 0, 3)).refusal, NONE);
     step_to_the_end(&mut c, &mut patterned());
     assert_eq!(c.read_queue.length, 3);
     let mut expected = c.clone();

@@ -9,15 +9,27 @@ const BANK_1: u32 = 0x4000;
 const END: u32 = 0x8000;
 
 /// A host read gives the word at this image place.
-fn word(place: u32) -> Turn<WordGiven> {
-    Turn::Served(WordGiven {
-        refusal: NONE,
+fn word(place: u32) -> Turn<HostGiven> {
+    Turn::Served(HostGiven {
         word: mark(place),
+        ..HostGiven::default()
     })
 }
 
-fn host_refused(refusal: u8) -> Turn<WordGiven> {
-    Turn::Served(WordGiven { refusal, word: 0 })
+/// With a number other than 9.
+fn host_refused(refusal: u8) -> Turn<HostGiven> {
+    Turn::Served(HostGiven {
+        refusal,
+        ..HostGiven::default()
+    })
+}
+
+fn host_denied(decider: Decider) -> Turn<HostGiven> {
+    Turn::Served(HostGiven {
+        refusal: DENIED,
+        decider: Some(decider),
+        word: 0,
+    })
 }
 
 fn step_refused(refusal: u8) -> Stepped {
@@ -51,13 +63,13 @@ fn assert_only_counts(
 }
 
 /// The host has its turn, the step waits, and nothing but the lost counts changes.
-fn assert_host_wins(c: &Controller, address: u32, host: Turn<WordGiven>, lost: [u32; 2]) {
+fn assert_host_wins(c: &Controller, address: u32, host: Turn<HostGiven>, lost: [u32; 2]) {
     let step = Turn::Waiting;
     assert_only_counts(c, Some(address), true, Rounded { host, step }, lost);
 }
 
 /// The round's step is served as the call `step` would, with these lost counts after it.
-fn assert_steps(c: &Controller, host: Option<u32>, told: Turn<WordGiven>, lost: [u32; 2]) {
+fn assert_steps(c: &Controller, host: Option<u32>, told: Turn<HostGiven>, lost: [u32; 2]) {
     let (mut stepped, mut rounded) = (c.clone(), c.clone());
     let (mut image, mut image_rounded) = (patterned(), patterned());
     let step = Turn::Served(step(&mut stepped, &mut image));
@@ -184,15 +196,18 @@ fn an_address_past_the_end_is_of_bank_1() {
 fn with_denied_page(lost: u32) -> Controller {
     let mut c = ready();
     assert_eq!(set_region(&mut c, 0, region(2, 1, 6)), NONE);
-    assert_eq!(start(&mut c, data(PAGE_ERASE, 0x800, 0)), NONE);
+    assert_eq!(start(&mut c, data(PAGE_ERASE, 0x800, 0)).refusal, NONE);
     c.lost = [lost, 0];
     c
 }
 
 #[test]
 fn a_refused_host_read_uses_its_turn() {
-    for (address, refusal) in [(0x802, MALFORMED), (0x804, DENIED)] {
-        assert_host_wins(&with_denied_page(1), address, host_refused(refusal), [2, 0]);
+    for (address, told) in [
+        (0x802, host_refused(MALFORMED)),
+        (0x804, host_denied(Decider::Region(0))),
+    ] {
+        assert_host_wins(&with_denied_page(1), address, told, [2, 0]);
     }
     let c = started_with(data(PAGE_ERASE, BANK_1, 0), [0, 4]);
     assert_host_wins(&c, END, host_refused(OUT_OF_RANGE), [0, 5]);
@@ -274,7 +289,7 @@ fn an_information_operation_competes_in_its_bank() {
 fn a_denied_read_competes_in_the_bank_of_its_address() {
     let mut c = ready();
     assert_eq!(set_region(&mut c, 0, region(15, 1, 6)), NONE);
-    assert_eq!(start(&mut c, data(READ, 0x3FFC, 2)), DENIED);
+    assert_eq!(start(&mut c, data(READ, 0x3FFC, 2)).refusal, DENIED);
     assert_host_wins(&c, 0, word(0), [1, 0]);
     assert_eq!(step(&mut c, &mut patterned()), MOVED);
     assert_host_wins(&c, BANK_1, word(7_424), [0, 1]);
@@ -365,13 +380,13 @@ fn every_other_call_leaves_the_counts() {
         &|c, _| set_info_page(c, 0, 1, 0, InfoSetting::default()),
         &|c, _| set_bank_erase_permission(c, 0, true),
         &|c, i| initialise(c, i).refusal,
-        &|c, _| start(c, read),
+        &|c, _| start(c, read).refusal,
         &|c, i| step(c, i).refusal,
         &|c, _| pop(c).refusal,
         &|c, i| host_read(c, i, 0).refusal,
         &|c, i| view(c, i, 0).refusal,
         &|c, i| whole(c, data(BANK_ERASE, 0, 0), i, &mut []).refusal,
-        &|c, _| start(c, program),
+        &|c, _| start(c, program).refusal,
         &|c, _| push(c, 0),
         &|c, i| step(c, i).refusal,
         &|c, i| rma(c, i),

@@ -19,7 +19,7 @@ fn assert_broken(c: &Controller) {
     refused(&|c, _| set_info_page(c, 0, 0, 0, InfoSetting::default()));
     refused(&|c, _| set_bank_erase_permission(c, 0, true));
     refused(&|c, i| initialise(c, i).refusal);
-    refused(&|c, _| start(c, read));
+    refused(&|c, _| start(c, read).refusal);
     refused(&|c, i| step(c, i).refusal);
     refused(&|c, _| push(c, 1));
     refused(&|c, _| pop(c).refusal);

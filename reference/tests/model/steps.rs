@@ -146,7 +146,7 @@ fn a_read_may_start_while_the_read_queue_holds_words() {
     let mut c = started(data(READ, 0, 3));
     let mut image = patterned();
     step_to_the_end(&mut c, &mut image);
-    assert_eq!(start(&mut c, data(READ, 0x100, 2)), NONE);
+    assert_eq!(start(&mut c, data(READ, 0x100, 2)).refusal, NONE);
     step_to_the_end(&mut c, &mut image);
     let words: Vec<u32> = (0..5).map(|_| pop(&mut c).word).collect();
     assert_eq!(words, [mark(0), mark(1), mark(2), mark(64), mark(65)]);
@@ -157,7 +157,7 @@ fn pops_are_allowed_while_a_program_or_erase_runs() {
     let mut c = started(data(READ, 0, 2));
     let mut image = patterned();
     step_to_the_end(&mut c, &mut image);
-    assert_eq!(start(&mut c, data(PAGE_ERASE, 0, 0)), NONE);
+    assert_eq!(start(&mut c, data(PAGE_ERASE, 0, 0)).refusal, NONE);
     assert_eq!(pop(&mut c).word, mark(0));
     step(&mut c, &mut image);
     assert_eq!(pop(&mut c).word, mark(1));
@@ -168,7 +168,7 @@ fn a_blank_read_delivers_n_words_of_ones_and_touches_no_page() {
     let mut c = ready();
     assert_eq!(set_region(&mut c, 0, region(1, 1, 6)), NONE);
     let op = data(READ, 0x3F8, 20);
-    assert_eq!(start(&mut c, op), DENIED);
+    assert_eq!(start(&mut c, op).refusal, DENIED);
     assert_eq!(
         c.in_progress,
         InProgress::Read {
@@ -256,8 +256,8 @@ fn information_words_are_programmed_and_erased_in_their_own_page() {
 #[test]
 fn clearing_is_allowed_during_an_operation_and_zeroes_the_address() {
     let mut c = ready();
-    assert_eq!(start(&mut c, data(4, 0x444, 1)), MALFORMED);
-    assert_eq!(start(&mut c, data(READ, 0, 1)), NONE);
+    assert_eq!(start(&mut c, data(4, 0x444, 1)).refusal, MALFORMED);
+    assert_eq!(start(&mut c, data(READ, 0, 1)).refusal, NONE);
     assert_eq!((c.recorded, c.last_address), (kinds(&[5]), 0x444));
     assert_eq!(clear(&mut c), NONE);
     assert_eq!(c, started(data(READ, 0, 1)));

@@ -24,18 +24,21 @@ fn host_read_refusals_give_word_0_and_are_not_recorded() {
     let mut c = ready();
     assert_eq!(set_region(&mut c, 0, region(2, 1, 6)), NONE);
     let image = patterned();
-    for (address, refusal) in [
-        (2, MALFORMED),
-        (0x7FFD, MALFORMED),
-        (0x8000, OUT_OF_RANGE),
-        (0xFFFF_FFFC, OUT_OF_RANGE),
-        (0x800, DENIED),
-        (0xBFC, DENIED),
+    let region_0 = Some(Decider::Region(0));
+    for (address, refusal, decider) in [
+        (2, MALFORMED, None),
+        (0x7FFD, MALFORMED, None),
+        (0x8000, OUT_OF_RANGE, None),
+        (0xFFFF_FFFC, OUT_OF_RANGE, None),
+        (0x800, DENIED, region_0),
+        (0xBFC, DENIED, region_0),
     ] {
-        assert_eq!(
-            host_read(&c, &image, address),
-            WordGiven { refusal, word: 0 }
-        );
+        let expected = HostGiven {
+            refusal,
+            decider,
+            word: 0,
+        };
+        assert_eq!(host_read(&c, &image, address), expected);
     }
     assert_eq!((c.recorded, c.last_address), (0, 0));
     assert_eq!(host_read(&c, &image, 0xC00).word, mark(768));
@@ -88,16 +91,15 @@ fn a_view_is_the_pages_own_256_words() {
         for page in 0..2 * d {
             let place = if page < d { page } else { page + 13 } * 256;
             let expected = View {
-                refusal: NONE,
                 start: place as usize,
                 length: 256,
+                ..View::default()
             };
             assert_eq!(view(&c, &image, page), expected);
         }
         let empty = View {
             refusal: OUT_OF_RANGE,
-            start: 0,
-            length: 0,
+            ..View::default()
         };
         assert_eq!(view(&c, &image, 2 * d), empty);
     }
@@ -109,6 +111,7 @@ fn a_denied_view_is_empty() {
     assert_eq!(set_region(&mut c, 4, region(17, 1, 6)), NONE);
     let empty = View {
         refusal: DENIED,
+        decider: Some(Decider::Region(4)),
         start: 0,
         length: 0,
     };

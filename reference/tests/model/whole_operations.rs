@@ -8,13 +8,7 @@ fn a_whole_read_fills_the_first_n_places() {
     let mut c = ready();
     let mut buffer = [7; 40];
     let done = whole(&mut c, data(READ, 0x20, 30), &mut patterned(), &mut buffer);
-    assert_eq!(
-        done,
-        WholeDone {
-            refusal: NONE,
-            bits: 0
-        }
-    );
+    assert_eq!(done, WholeDone::default());
     for (i, word) in buffer.iter().enumerate() {
         let expected = if i < 30 { mark(8 + i as u32) } else { 7 };
         assert_eq!(*word, expected);
@@ -81,6 +75,7 @@ fn a_denied_whole_read_gives_9_and_n_words_of_ones() {
         done,
         WholeDone {
             refusal: DENIED,
+            decider: Some(Decider::Region(0)),
             bits: 0
         }
     );
@@ -95,14 +90,16 @@ fn a_denied_whole_read_gives_9_and_n_words_of_ones() {
 #[test]
 fn refused_whole_operations_move_no_flash_and_leave_the_buffer() {
     let none = ready_without_rights();
-    for (op, refusal) in [
-        (data(77, 4, 1), MALFORMED),
-        (data(READ, 2, 1), MALFORMED),
-        (data(READ, 0x8000, 1), OUT_OF_RANGE),
-        (data(PROGRAM, 0x3C, 2), CROSSES_WINDOW),
-        (data(PROGRAM, 0x3C, 1), DENIED),
-        (data(PAGE_ERASE, 0x3C, 1), DENIED),
-        (info(BANK_ERASE, 0, 0x3C, 1), DENIED),
+    let by_default = Some(Decider::Default);
+    let by_bank = Some(Decider::BankPermission);
+    for (op, refusal, decider) in [
+        (data(77, 4, 1), MALFORMED, None),
+        (data(READ, 2, 1), MALFORMED, None),
+        (data(READ, 0x8000, 1), OUT_OF_RANGE, None),
+        (data(PROGRAM, 0x3C, 2), CROSSES_WINDOW, None),
+        (data(PROGRAM, 0x3C, 1), DENIED, by_default),
+        (data(PAGE_ERASE, 0x3C, 1), DENIED, by_default),
+        (info(BANK_ERASE, 0, 0x3C, 1), DENIED, by_bank),
     ] {
         let mut c = none.clone();
         let mut expected = none.clone();
@@ -111,7 +108,12 @@ fn refused_whole_operations_move_no_flash_and_leave_the_buffer() {
         let mut image = patterned();
         let mut buffer = [3; 4];
         let done = whole(&mut c, op, &mut image, &mut buffer);
-        assert_eq!(done, WholeDone { refusal, bits: 0 });
+        let expected_done = WholeDone {
+            refusal,
+            decider,
+            bits: 0,
+        };
+        assert_eq!(done, expected_done);
         assert_eq!(c, expected);
         assert!(image == patterned());
         assert_eq!(buffer, [3; 4]);
@@ -121,7 +123,7 @@ fn refused_whole_operations_move_no_flash_and_leave_the_buffer() {
 #[test]
 fn an_accepted_whole_operation_keeps_the_record() {
     let mut c = ready();
-    assert_eq!(start(&mut c, data(4, 0x77, 0)), MALFORMED);
+    assert_eq!(start(&mut c, data(4, 0x77, 0)).refusal, MALFORMED);
     let before = c.clone();
     let done = whole(&mut c, data(READ, 0, 1), &mut erased(), &mut [0]);
     assert_eq!(done.refusal, NONE);

@@ -13,7 +13,7 @@ out-of-range-spec =
     (λ c κs. tt)
     (λ c κs. tt)
     (λ c. simp (
-      c .span-address .ensures,
+      c .span-address .ensures .0,
       c .before .span-words .ensures,
       c .before .before .span-limit .ensures,
       c .before .before .before .is-bank-erase .ensures,

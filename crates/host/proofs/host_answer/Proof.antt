@@ -17,11 +17,10 @@ host-answer-spec =
     (λ c κs. tt)
     (λ c κs. tt)
     (λ c κs. tt)
-    (λ c κs. tt)
     (λ c.
-    let u = c .before .before .before .before in
+    let u = c .before .before .before in
     let k = u .before .before .before .before in
     let r = k .before .before .before in
-    rw (c .or-else3 .ensures, c .before .or-else2 .ensures, c .before .before .or-else .ensures, c .before .before .before .check3 .ensures)
-    (rw (u .unreadable .ensures, u .before .page-of .ensures .0, u .before .before .check2 .ensures, u .before .before .before .past-data .ensures)
+    rw (c .or-else3 .ensures, c .before .or-else2 .ensures, c .before .before .or-else .ensures)
+    (rw (u .read-answer .ensures, u .before .page-of .ensures .0, u .before .before .check2 .ensures, u .before .before .before .past-data .ensures)
     (rw (k .pages .ensures, k .before .check .ensures, k .before .before .unaligned .ensures, r .ready-with .ensures) (host-answer-same _ _ _)))))

@@ -12,9 +12,9 @@ use Rattle.host.proofs.host_read.Tie as tie
 
 -- Whether the checks accepted.
 asked : (d : tie.After-accepts) →
-    let v = d .before .before .before .before .args in
+    let v = d .before .before .before .args in
     d .accepts .result ≡ accepts (hostAnswer (decode (v .s .now)) (flash (v .image .now)) (v .at))
-asked d = rw (d .before .before .host-answer .ensures) at (d .accepts .ensures)
+asked d = rw (d .before .host-answer .ensures) at (d .accepts .ensures)
 
 pub host-read-spec : {M : Type 1} → statement M
 host-read-spec =
@@ -22,18 +22,19 @@ host-read-spec =
     (λ c κs. tt)
     (λ c κs. tt)
     (λ c κs. tt)
-    (λ c. let n = c .before .before in rw (n .number .ensures, n .before .host-answer .ensures) (read-refused _ _ _ (sym (asked (c .before)) ∙ not-true _ (c .if1 .taken))))
+    (λ c. let t = c .before in rw (c .told-word .ensures, t .before .before .host-answer .ensures) (read-refused _ _ _ (sym (asked (t .before)) ∙ not-true _ (t .if1 .taken))))
     (λ c κs. tt)
     (λ c κs. rw (c .pages .ensures) (read-inside _ _ _ (sym (asked (c .before .before)) ∙ not-false _ (c .before .if1 .left)) .0))
     (λ c. search needs)
     (λ c. search needs)
     (λ c. let w = c .before .before in rw (w .word-at .ensures, w .before .pages .ensures) (read-inside _ _ _ (sym (asked (w .before .before .before)) ∙ not-false _ (w .before .before .if1 .left)) .1))
+    (λ c κs. tt)
     (λ c.
-    let w = c .before .before in
-    let n = w .before .before .before .before in
+    let w = c .before .before .before in
+    let t = w .before .before in
     rw (
+      c .told-word2 .ensures,
       w .word-at .ensures,
       w .before .pages .ensures,
-      n .number .ensures,
-      n .before .host-answer .ensures,
-    ) (read-accepted _ _ _ (sym (asked (w .before .before .before)) ∙ not-false _ (w .before .before .if1 .left)))))
+      t .before .before .host-answer .ensures,
+    ) (read-accepted _ _ _ (sym (asked (t .before)) ∙ not-false _ (t .if1 .left)))))

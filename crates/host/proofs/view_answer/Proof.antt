@@ -16,11 +16,10 @@ view-answer-spec =
     (λ c κs. tt)
     (λ c κs. tt)
     (λ c κs. tt)
-    (λ c κs. tt)
     (λ c.
-    let u = c .before .before .before in
+    let u = c .before .before in
     let k = u .before .before .before in
     let r = k .before in
-    rw (c .or-else2 .ensures, c .before .or-else .ensures, c .before .before .check2 .ensures, u .unreadable .ensures)
+    rw (c .or-else2 .ensures, c .before .or-else .ensures, u .read-answer .ensures)
     (rw (u .before .check .ensures, k .pages .ensures, r .ready-with .ensures)
     (view-answer-same _ _ _))))

@@ -11,9 +11,9 @@ use Rattle.host.proofs.view_start.Tie as tie
 
 -- Whether the checks accepted.
 asked : (d : tie.After-accepts) →
-    let v = d .before .before .before .before .args in
+    let v = d .before .before .before .args in
     d .accepts .result ≡ accepts (viewAnswer (decode (v .s .now)) (flash (v .image .now)) (v .p))
-asked d = rw (d .before .before .view-answer .ensures) at (d .accepts .ensures)
+asked d = rw (d .before .view-answer .ensures) at (d .accepts .ensures)
 
 pub view-start-spec : {M : Type 1} → statement M
 view-start-spec =
@@ -21,10 +21,8 @@ view-start-spec =
     (λ c κs. tt)
     (λ c κs. tt)
     (λ c κs. tt)
-    (λ c. let n = c .before .before in rw (n .number .ensures, n .before .view-answer .ensures) (view-refused _ _ _ (sym (asked (c .before)) ∙ not-true _ (c .if1 .taken))))
+    (λ c. let t = c .before in rw (c .told-start .ensures, t .before .before .view-answer .ensures) (view-refused _ _ _ (sym (asked (t .before)) ∙ not-true _ (t .if1 .taken))))
     (λ c κs. let h = view-inside _ _ _ (sym (asked (c .before)) ∙ not-false _ (c .if1 .left)) in (h .0, h .1))
-    (λ c. let n = c .before .before .before in rw (
-      c .page-start .ensures,
-      n .number .ensures,
-      n .before .view-answer .ensures,
-    ) (view-accepted _ _ _ (sym (asked (c .before .before)) ∙ not-false _ (c .before .if1 .left)))))
+    (λ c κs. tt)
+    (λ c. let t = c .before .before in rw (c .told-start2 .ensures, c .before .page-start .ensures, t .before .before .view-answer .ensures)
+    (view-accepted _ _ _ (sym (asked (t .before)) ∙ not-false _ (t .if1 .left)))))

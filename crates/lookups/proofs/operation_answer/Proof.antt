@@ -12,19 +12,18 @@ use Rattle.lookups.proofs.operation_answer.Tie as tie
 returns-2 : tie.Need-returns-2
 unfolding operationAnswer standsFor
 returns-2 c =
-    let t = c .before .before .before .before .before .before .before .before in
+    let t = c .before .before .before .before .before .before .before in
     let told = t .before .before .form-answer .ensures in
     let formed : malformed (t .before .before .before .before .args .o) ≡ false =
     check-passed _ Malformed refl (rw told at (sym (t .before .accepts .ensures) ∙ not-false _ (t .if1 .left))) in
     rw (
       c .or-else2 .ensures,
       c .before .or-else .ensures,
-      c .before .before .check3 .ensures,
-      c .before .before .before .denied .ensures,
-      c .before .before .before .before .check2 .ensures,
-      c .before .before .before .before .before .crosses-window .ensures,
-      c .before .before .before .before .before .before .check .ensures,
-      c .before .before .before .before .before .before .before .out-of-range .ensures,
+      c .before .before .right-answer .ensures,
+      c .before .before .before .check2 .ensures,
+      c .before .before .before .before .crosses-window .ensures,
+      c .before .before .before .before .before .check .ensures,
+      c .before .before .before .before .before .before .out-of-range .ensures,
       t .before .before .before .pages .ensures,
       formed,
     )
@@ -44,7 +43,6 @@ operation-answer-spec =
     (λ c κs.
     let t = c .before .before .before .before in
     check-passed _ Malformed refl (rw (t .before .before .form-answer .ensures) at (sym (t .before .accepts .ensures) ∙ not-false _ (t .if1 .left))))
-    (λ c κs. tt)
     (λ c κs. tt)
     (λ c κs. tt)
     returns-2)

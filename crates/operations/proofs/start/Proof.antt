@@ -13,7 +13,7 @@ start-spec =
     (λ c κs. tt)
     (λ c.
     let f = c .before .before .before in
-    rw (c .number .ensures)
+    rw (c .told .ensures)
     (start-early (f .before .before .args .s .now) (f .before .before .args .o) (f .start-answer .result) (f .start-answer .ensures)
     (sym (c .before .before .accepts .ensures) ∙ not-true _ (c .before .if1 .taken))))
     (λ c κs. tt)
@@ -25,7 +25,7 @@ start-spec =
     (λ c κs. tt)
     (λ c.
     let f = c .before .before .before .before .before .before .before in
-    rw (c .number2 .ensures, c .before .started .ensures)
+    rw (c .told2 .ensures, c .before .started .ensures)
     (start-goes (f .before .before .args .s .now) (f .before .before .args .o) (f .start-answer .result) (f .start-answer .ensures)
     (sym (c .before .before .before .before .before .before .accepts .ensures) ∙ not-false _ (c .before .before .before .before .before .if1 .left))
     (c .before .before .before .operation-answer .result) (c .before .before .before .operation-answer .ensures))))

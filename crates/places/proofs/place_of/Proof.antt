@@ -36,11 +36,11 @@ place-of-spec =
     let t = c .before .before in
     let s = t .before .before .before in
     let span = sym (t .before .is-bank-erase .ensures) ∙ t .if1 .left in
-    omega (arith, c .span-address .ensures, span-address-fits (s .args .d) (s .args .o) (s .args .k) (s .pre .0) (s .pre .1) (s .pre .2) span (s .pre .3)))
+    omega (arith, c .span-address .ensures .0, span-address-fits (s .args .d) (s .args .o) (s .args .k) (s .pre .0) (s .pre .1) (s .pre .2) span (s .pre .3)))
     (λ c κs. search needs)
     (λ c. simp (
       c .word-at .ensures,
-      c .before .span-address .ensures,
+      c .before .span-address .ensures .0,
       c .before .before .is-information .ensures,
       sym (c .before .before .before .before .is-bank-erase .ensures) ∙ c .before .before .before .if1 .left,
     )))

@@ -10,4 +10,4 @@ span-address-spec =
     (λ c. search needs)
     (λ c. search needs)
     (λ c. search needs)
-    (λ c. simp (c .before .span-start .ensures)))
+    (λ c. (simp (c .before .span-start .ensures), search needs)))

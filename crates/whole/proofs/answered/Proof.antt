@@ -53,8 +53,7 @@ returns-2 c =
       no,
       blank-read t,
     )
-    (left-blank _ (flash (s .args .image .now)) (s .args .o) (s .args .buffer .now) (s .pre .0 .encodes) (s .args .answer) (s .pre .1) no
-    (and-right (isRead (s .args .o)) _ (blank-read t)))
+    (left-blank _ (flash (s .args .image .now)) (s .args .o) (s .args .buffer .now) (s .pre .0 .encodes) (s .args .answer) (s .pre .1) no)
 
 returns-3 : tie.Need-returns-3
 returns-3 c =

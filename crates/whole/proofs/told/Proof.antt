@@ -6,4 +6,4 @@ pub told-spec : {M : Type 1} → statement M
 told-spec =
     tie.close (tie.spec
     (λ c κs. tt)
-    (λ c. rw (c .number .ensures)))
+    (λ c. rw (c .told .ensures)))

@@ -1,7 +1,7 @@
 //! The three programs, by the calls that are measured.
 
 use reference::interface::{calls as library, flat, from_reference};
-use reference::model::{self, Controller, Operation, Progress, Stepped, WordGiven};
+use reference::model::{self, Controller, HostGiven, Operation, Progress, Stepped, WordGiven};
 use reference::plain;
 
 /// Each call gives its answer number first.
@@ -24,7 +24,7 @@ pub struct Model(pub flat::Controller);
 
 impl Program for Model {
     fn start(&mut self, operation: Operation) -> u32 {
-        library::start(&mut self.0, operation.into())
+        library::start(&mut self.0, operation.into()).answer
     }
 
     fn step(&mut self, image: &mut [u32]) -> (u32, bool, u32) {
@@ -71,12 +71,16 @@ fn fetched(given: WordGiven) -> (u32, u32) {
     (given.refusal.into(), given.word)
 }
 
+fn host_fetched(given: HostGiven) -> (u32, u32) {
+    (given.refusal.into(), given.word)
+}
+
 #[derive(Clone)]
 pub struct Second(pub Controller);
 
 impl Program for Second {
     fn start(&mut self, operation: Operation) -> u32 {
-        model::start(&mut self.0, operation).into()
+        model::start(&mut self.0, operation).refusal.into()
     }
 
     fn step(&mut self, image: &mut [u32]) -> (u32, bool, u32) {
@@ -97,7 +101,7 @@ impl Program for Second {
     }
 
     fn host_read(&self, image: &[u32], address: u32) -> (u32, u32) {
-        fetched(model::host_read(&self.0, image, address))
+        host_fetched(model::host_read(&self.0, image, address))
     }
 
     fn round(&mut self, image: &mut [u32], host: Option<u32>) -> flat::Rounded {
@@ -114,7 +118,7 @@ pub struct Plain(pub Controller);
 
 impl Program for Plain {
     fn start(&mut self, operation: Operation) -> u32 {
-        plain::start(&mut self.0, operation).into()
+        plain::start(&mut self.0, operation).refusal.into()
     }
 
     fn step(&mut self, image: &mut [u32]) -> (u32, bool, u32) {
@@ -135,7 +139,7 @@ impl Program for Plain {
     }
 
     fn host_read(&self, image: &[u32], address: u32) -> (u32, u32) {
-        fetched(plain::host_read(&self.0, image, address))
+        host_fetched(plain::host_read(&self.0, image, address))
     }
 
     fn round(&mut self, image: &mut [u32], host: Option<u32>) -> flat::Rounded {

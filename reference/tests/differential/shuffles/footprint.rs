@@ -25,7 +25,7 @@ fn spares(writer: &Footprint, other: &Footprint) -> bool {
 pub fn footprint(data_pages: u32, items: &[Item], ended: &Ended) -> Footprint {
     let mut footprint = Footprint::default();
     for (item, given) in items.iter().zip(&ended.given) {
-        if given.answer == 0 {
+        if given.done.answer == 0 {
             let touched = pages_of(data_pages, &item.operation);
             let pages = match item.operation.kind {
                 flat::READ => &mut footprint.read,

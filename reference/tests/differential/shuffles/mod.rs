@@ -34,11 +34,10 @@ struct Beginning {
     image: Vec<u32>,
 }
 
-/// What an operation gives: its answer, its bit count and its whole buffer.
+/// What an operation gives: its answer with whatever that reports, its bit count and its whole buffer.
 #[derive(Clone, Debug, PartialEq, Eq)]
 struct Given {
-    answer: u32,
-    bits: u32,
+    done: flat::Completed,
     buffer: Vec<u32>,
 }
 
@@ -159,11 +158,7 @@ fn on_model(beginning: &Beginning, items: &[Item]) -> Ended {
     let mut run = |item: &Item| {
         let mut buffer = item.buffer.clone();
         let done = library::run(&mut c, &mut image, item.operation, &mut buffer);
-        Given {
-            answer: done.answer,
-            bits: done.bits,
-            buffer,
-        }
+        Given { done, buffer }
     };
     let given = items.iter().map(&mut run).collect();
     Ended {
@@ -179,12 +174,8 @@ fn on_second(beginning: &Beginning, items: &[Item]) -> Ended {
     let mut run = |item: &Item| {
         let mut buffer = item.buffer.clone();
         let operation = asked_operation(item.operation);
-        let done = model::whole(&mut c, operation, &mut image, &mut buffer);
-        Given {
-            answer: done.refusal.into(),
-            bits: done.bits,
-            buffer,
-        }
+        let done = model::whole(&mut c, operation, &mut image, &mut buffer).into();
+        Given { done, buffer }
     };
     let given = items.iter().map(&mut run).collect();
     Ended {
@@ -247,11 +238,13 @@ fn the_premise_is_about_the_pages_that_are_written() {
 /// A shuffle that gives, leaves or records anything else does not pass.
 #[test]
 fn a_wrong_end_is_told() {
-    let beginning = erased_with_all_rights();
+    let mut beginning = erased_with_all_rights();
+    beginning.controller.bank_erase[1] = 0;
     let shuffle = [
         item(List::Left, flat::PROGRAM, 0x400),
         item(List::Right, flat::PROGRAM, 0x800),
         item(List::Left, 9, 0),
+        item(List::Right, flat::BANK_ERASE, 0x2800),
     ];
     let [left, right] = [List::Left, List::Right].map(|list| of(&shuffle, list));
     let alone = [&left, &right].map(|items| on_second(&beginning, items));
@@ -266,8 +259,9 @@ fn a_wrong_end_is_told() {
             && check_end(&beginning, &ended, &alone, &footprints).is_ok()
     };
     assert!(passes(|_| ()));
-    assert!(!passes(|ended| ended.given[1].bits += 1));
-    assert!(!passes(|ended| ended.given[2].answer = 7));
+    assert!(!passes(|ended| ended.given[1].done.bits += 1));
+    assert!(!passes(|ended| ended.given[2].done.answer = 7));
+    assert!(!passes(|ended| ended.given[3].done.decider = 8));
     assert!(!passes(|ended| ended.given[0].buffer[0] = 0));
     assert!(!passes(|ended| ended.image[256] = u32::MAX));
     assert!(!passes(|ended| ended.image[9] = 0));

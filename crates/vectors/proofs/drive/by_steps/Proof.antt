@@ -7,10 +7,10 @@ use Rattle.vectors.proofs.drive.by_steps.Statement.{statement}
 use Rattle.vectors.proofs.drive.by_steps.Tie as tie
 
 abbrev Inv-loop : tie.InvT-loop
-Inv-loop s₀ image₀ word answer r₀ i₀ s image r i = (i ≤ 8000) × (length image ≡ length image₀)
+Inv-loop s₀ image₀ word r₀ i₀ s image r i = (i ≤ 8000) × (length image ≡ length image₀)
 
 abbrev μ-loop : tie.MeasureT-loop
-μ-loop s₀ image₀ word answer r₀ i₀ s image r i = 8000 - i
+μ-loop s₀ image₀ word r₀ i₀ s image r i = 8000 - i
 
 pub by-steps-spec : {M : Type 1} → statement M
 by-steps-spec =
