@@ -199,9 +199,10 @@ pub fn decider(a: Answer) -> u32
 pub fn told(a: Answer) -> ToldAnswer
     ensures { λ r. ⌜ r ≡ toldAnswer a ⌝ }
 {
+    let answer = number(a);
     let by = decider(a);
     ToldAnswer {
-        answer: number(a),
+        answer,
         decider: by,
     }
 }
