@@ -6,11 +6,11 @@ use lib.Dec.{eqb}
 use borrow.Author.Tests.{eqb-true, ne-eqb}
 use Rattle.model.specs.State.{isReady}
 use Rattle.model.specs.Rights.{denied, deciderOf}
-use Rattle.model.specs.Refusals.{numberOf, accepts, isDenied, check, orElse, readyAnswer}
+use Rattle.model.specs.Refusals.{numberOf, noDecider, reported, accepts, isDenied, check, orElse, readyAnswer}
 use Rattle.model.specs.Checks.{malformed, outOfRange, crossesWindow, operationAnswer}
 use Rattle.model.specs.Errors.{isRecorded}
 use Rattle.model.specs.declared.Answer.{Answer}
-use Rattle.model.specs.declared.Answer.the-variants.{Accepted, Invalid, Disabled, Uninitialised, Busy, Malformed, OutOfRange, CrossesWindow, Denied}
+use Rattle.model.specs.declared.Answer.the-variants.{Accepted, Invalid, Disabled, Uninitialised, Busy, Malformed, ShortBuffer, OutOfRange, CrossesWindow, Denied, QueueEmpty, QueueFull, Unexpected, BadSetting}
 use Rattle.model.specs.declared.Decider.{Decider}
 use Rattle.model.specs.declared.Phase.{Phase}
 use Rattle.model.specs.declared.Phase.the-variants as phase
@@ -66,6 +66,23 @@ unrecorded true phase.Disabled b = refl
 pub unrecorded-undenied : (n : ℕ) → isRecorded n ≡ false → eqb n 9 ≡ false
 unrecorded-undenied n u =
     by-test (eqb n 9) (λ t. let e : n ≡ 9 = eqb-true _ _ t in absurd (true≢false (rw e at u))) (λ t. t)
+
+-- Only 9 reports who decided.
+pub undenied-reports-none : (a : Answer) → isDenied a ≡ false → reported a ≡ noDecider
+undenied-reports-none Accepted h = refl
+undenied-reports-none Invalid h = refl
+undenied-reports-none Disabled h = refl
+undenied-reports-none Uninitialised h = refl
+undenied-reports-none Busy h = refl
+undenied-reports-none Malformed h = refl
+undenied-reports-none ShortBuffer h = refl
+undenied-reports-none OutOfRange h = refl
+undenied-reports-none CrossesWindow h = refl
+undenied-reports-none (Denied by) h = absurd (true≢false h)
+undenied-reports-none QueueEmpty h = refl
+undenied-reports-none QueueFull h = refl
+undenied-reports-none Unexpected h = refl
+undenied-reports-none BadSetting h = refl
 
 -- ---- checks 5, 7, 8 and 9, as four tests
 

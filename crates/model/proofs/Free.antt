@@ -1,22 +1,26 @@
--- Checks 1 to 4 of a whole operation: they accept a controller that is valid, ready and free. Assumes nothing.
+-- Checks 1 to 4 of a whole operation: they accept a controller that is valid, ready and free; and its answer past them. Assumes
+-- nothing.
+use Prim.Native.Nat.{ℕ}
 use mathlib.Core.Path.{_≡_, refl}
 use mathlib.Core.Bool.{true, false, _||_, not, true≢false}
+use mathlib.Core.List.{List}
 use borrow.Author.Tests.{not-false, eqb-true}
 use Rattle.model.specs.Queue.{isEmpty}
 use Rattle.model.specs.State.{Flash, flashFits, isReady, isBusy, withErrors, withQueues}
 use Rattle.model.specs.Refusals.{accepts, readyAnswer}
 use Rattle.model.specs.Checks.{operationAnswer}
-use Rattle.model.specs.Steps.{startAnswer, started, start}
+use Rattle.model.specs.Steps.{startAnswer, starts, started, start}
 use Rattle.model.specs.Valid.{errorsFit, bothEmpty, runningFits, valid, validWith}
-use Rattle.model.specs.Whole.{wholeAnswer}
+use Rattle.model.specs.Whole.{wholeAnswer, drive}
 use Rattle.model.specs.declared.Errors.{Errors}
 use Rattle.model.specs.declared.Queues.{Queues}
 use Rattle.model.specs.declared.Operation.{Operation}
 use Rattle.model.specs.declared.Progress.{Progress}
 use Rattle.model.specs.declared.Progress.the-variants.{Idle, Running}
 use Rattle.model.specs.declared.Controller.{Controller}
+use Rattle.model.specs.declared.Outcome.{Outcome}
 use Rattle.model.specs.declared.Answer.the-variants.{Busy}
-use Rattle.model.proofs.Bool.{and-left, and-right, or-left, or-right}
+use Rattle.model.proofs.Bool.{and-left, and-right, or-left, or-right, by-test}
 use Rattle.model.proofs.Answers.{both-accept, check-passed, ready-passed, ready-accepts}
 use Rattle.model.proofs.Valid.{valid-parts}
 use Rattle.model.proofs.Moving.{with-valid, with-fits}
@@ -77,3 +81,9 @@ free-again c e q h fits empty =
       h .ready,
       v .physical,
     )
+
+-- ---- a whole operation answers as its start
+
+pub drive-answers : (d : ℕ) (o : Operation) (s : Outcome) (f : Flash) (b : List ℕ) → drive d o s f b .result .answer ≡ s .answer
+unfolding drive
+drive-answers d o s f b = by-test (starts o (s .answer)) (λ t. rw t) (λ t. rw t)

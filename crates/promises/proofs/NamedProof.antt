@@ -15,8 +15,8 @@ use Rattle.model.specs.Valid.{rightsFit, regionFits, pageFits, bothEmpty, valid
 use Rattle.model.specs.Errors.{clear}
 use Rattle.model.specs.Settings.{settingAnswer, setInputs, configured, setRegion, setDefault, infoExists, setInfo, setErase}
 use Rattle.model.specs.Lifecycle.{reset, isDisabled, initialiseAnswer, initialise, rmaAnswer, rma}
-use Rattle.model.specs.Steps.{startAnswer, starts, start, pushAnswer, push, popAnswer, pop, stepProgress, step}
-use Rattle.model.specs.Whole.{wholeAnswer, shortBuffer, drive, whole}
+use Rattle.model.specs.Steps.{startAnswer, start, pushAnswer, push, popAnswer, pop, stepProgress, step}
+use Rattle.model.specs.Whole.{wholeAnswer, shortBuffer, whole}
 use Rattle.model.specs.Host.{unreadable, readAnswer, hostAnswer, hostRead, viewAnswer, view}
 use Rattle.model.specs.Rounds.{round}
 use Rattle.model.specs.declared.Page.{Page}
@@ -27,7 +27,6 @@ use Rattle.model.specs.declared.Progress.{Progress}
 use Rattle.model.specs.declared.Progress.the-variants.{Idle, Running}
 use Rattle.model.specs.declared.Setup.{Setup}
 use Rattle.model.specs.declared.Controller.{Controller}
-use Rattle.model.specs.declared.Outcome.{Outcome}
 use Rattle.model.specs.declared.Decider.{Decider}
 use Rattle.model.specs.declared.Phase.{Phase}
 use Rattle.model.specs.declared.Phase.the-variants as phase
@@ -37,6 +36,8 @@ use Rattle.model.specs.declared.HostRequest.the-variants.{Nothing, Word}
 use Rattle.model.proofs.Bool.{by-test}
 use Rattle.model.proofs.Deciders.{denied-first}
 use Rattle.model.proofs.StepLaws.{start-goes-on, start-stops, step-ready, step-unready, running-accepts}
+use Rattle.model.proofs.Answers.{undenied-reports-none}
+use Rattle.model.proofs.Free.{drive-answers}
 use Rattle.model.proofs.Rounds.{BothAsked, host, instead, both, both-asked}
 use Rattle.promises.specs.Calls.{Call, State, Reset, SetInputs, SetRegion, SetDefault, SetInfo, SetErase, Initialise, Start, Step, Push, Pop, Whole, HostRead, ViewPage, Clear, Rma, Round, perform}
 use Rattle.promises.specs.Refused.{decidedBy}
@@ -50,24 +51,8 @@ record Right (n : ℕ) (N : ℕ → Type 0) (a : Answer) : Type 0 where
   only : isDenied a ≡ true → N n
 
 -- One that is not 9,
-undenied : (a : Answer) → isDenied a ≡ false → reported a ≡ noDecider
-undenied Accepted h = refl
-undenied Invalid h = refl
-undenied Disabled h = refl
-undenied Uninitialised h = refl
-undenied Busy h = refl
-undenied Malformed h = refl
-undenied ShortBuffer h = refl
-undenied OutOfRange h = refl
-undenied CrossesWindow h = refl
-undenied (Denied by) h = absurd (true≢false h)
-undenied QueueEmpty h = refl
-undenied QueueFull h = refl
-undenied Unexpected h = refl
-undenied BadSetting h = refl
-
 plain : {n : ℕ} {N : ℕ → Type 0} (a : Answer) → isDenied a ≡ false → Right n N a
-plain a h = record { says = rw h (undenied a h); only = λ e. absurd (true≢false (sym e ∙ h)) }
+plain a h = record { says = rw h (undenied-reports-none a h); only = λ e. absurd (true≢false (sym e ∙ h)) }
 
 -- a check,
 checks : {n : ℕ} {N : ℕ → Type 0} (t : Bool) (a : Answer) → isDenied a ≡ false → Right n N (check t a)
@@ -155,10 +140,6 @@ start-right c o =
     (λ e. rw (start-stops c o e) (either _ _ (ready (valid c) (c .phase)) (checks (isBusy (c .progress)) Busy refl)))
 
 -- a whole operation, which answers as its start,
-drive-answers : (d : ℕ) (o : Operation) (s : Outcome) (f : Flash) (b : List ℕ) → drive d o s f b .result .answer ≡ s .answer
-unfolding drive
-drive-answers d o s f b = by-test (starts o (s .answer)) (λ t. rw t) (λ t. rw t)
-
 whole-right : (c : Controller) (f : Flash) (o : Operation) (b : List ℕ) → OperationRight (c .setup) o (whole c f o b .result .answer)
 unfolding whole wholeAnswer
 whole-right c f o b =
@@ -283,4 +264,4 @@ pub none-else : NoneElse
 none-else s k h = call-tells s k .says ∙ rw (ne-eqb (perform s k .reply .answer) 9 h)
 
 pub host-none-else : HostNoneElse
-host-none-else s h b n = undenied (perform s (Round h b) .reply .host .answer) (ne-eqb _ 9 n)
+host-none-else s h b n = undenied-reports-none (perform s (Round h b) .reply .host .answer) (ne-eqb _ 9 n)
