@@ -129,7 +129,7 @@ typedef enum lurgabel_answer {
     LURGABEL_OUT_OF_RANGE = 7,    /* the address or the span leaves its pages: recorded */
     LURGABEL_CROSSES_WINDOW = 8,  /* a program's bytes lie in different 64-byte windows: recorded */
     LURGABEL_DENIED = 9,          /* the rights do not allow it, see lurgabel_decider: recorded; a read still starts,
-                                     and delivers ones */
+                                     and delivers its words before the first denied page, then ones */
     LURGABEL_QUEUE_EMPTY = 10,    /* pop with no word in the read queue: all unchanged */
     LURGABEL_QUEUE_FULL = 11,     /* push with 16 words in the program queue: all unchanged */
     LURGABEL_UNEXPECTED = 12,     /* step with nothing in progress; push with no program, or all its words pushed;
@@ -139,7 +139,12 @@ typedef enum lurgabel_answer {
 
 /* 'Recorded': the refusal's bit joins lurgabel_controller.recorded, the operation's address becomes last_address, and
  * nothing else changes, save that a denied read starts, or runs if it is a whole one. Host reads and views record
- * nothing. */
+ * nothing.
+ *
+ * A denied read is true up to its first denied page: the first one, in the order of its words, that lacks the read
+ * right. The words before that page are the stored ones; those of that page and all after them are ones, also where a
+ * later page may be read. These ones are no sign of erased flash. The last_address of a denied read is that of its
+ * first denied word: the start of the first denied page, or the operation's own address if it begins in that page. */
 
 static inline const char *lurgabel_answer_text(lurgabel_answer answer) {
     switch (answer) {
@@ -170,8 +175,8 @@ static inline const char *lurgabel_answer_text(lurgabel_answer answer) {
  *   the access. The creator's page is closed unless provision is enabled and the seeds are not locked, the owner's page
  *   unless provision is enabled.
  *
- * A read may cover several pages: it names the decider of the first one, in the order of its words, that lacks the read
- * right. A bank erase looks at no page: it names its bank's permission.
+ * A read may cover several pages: it names the decider of its first denied page. A bank erase looks at no page: it
+ * names its bank's permission.
  *
  * A decider is reported and not recorded: it comes with the answer, from the calls whose names end in _by and in the
  * reply of a round, and no number of the controller tells of it later. With every answer but LURGABEL_DENIED it is
@@ -286,11 +291,13 @@ typedef struct lurgabel_queue {
 } lurgabel_queue;
 
 /* The operation in progress. While `running` is 0 no rule looks at the other fields, and none looks at `readable` of a
- * program or an erase; a start sets them anew, the last step sets them to 0, and a whole operation leaves them. */
+ * program or an erase; a start sets them anew, the last step sets them to 0, and a whole operation leaves them.
+ * `readable` of a read in progress is what the settings and inputs make it: its count, or, if it is denied, the words
+ * before its first denied page. */
 typedef struct lurgabel_progress {
     lurgabel_operation operation;  /* as it was started; its kind is 0 to 3 */
     uint32_t moved;                /* words moved so far: fewer than the operation has */
-    uint32_t readable;             /* of a read: its count, or 0 if the read is denied and delivers ones */
+    uint32_t readable;             /* of a read: how many of its words are the stored ones; those after them are ones */
     uint32_t running;              /* 0 or 1 */
 } lurgabel_progress;
 
@@ -346,7 +353,7 @@ typedef struct lurgabel_controller {
     lurgabel_queue read_queue;            /* empty unless ready */
     lurgabel_queue program_queue;         /* words pushed and not yet moved; empty unless a program is in progress */
     uint32_t recorded;                    /* LURGABEL_RECORDED(..) of the recorded kinds, added up */
-    uint32_t last_address;                /* of the last recorded error; 0 if no kind is recorded */
+    uint32_t last_address;                /* of the last recorded error (lurgabel_answer); 0 if no kind is recorded */
     uint32_t lost_turns[2];               /* of each bank, turns that its steps lost: 0 to LURGABEL_LOST_LIMIT */
 } lurgabel_controller;
 
@@ -514,8 +521,8 @@ LURGABEL_CALL lurgabel_answer lurgabel_initialise(lurgabel_controller *c, const 
     return LURGABEL_AS(lurgabel_answer, r.answer);
 }
 
-/* Starts an operation, which steps then carry out. A denied read starts too: its decider is reported here, and its
- * steps, which are accepted, report none. */
+/* Starts an operation, which steps then carry out. A denied read starts too: it is recorded and its decider reported
+ * here, and its steps, which are accepted, record and report nothing. */
 LURGABEL_CALL lurgabel_answer lurgabel_start_by(lurgabel_controller *c, lurgabel_operation operation,
                                                 lurgabel_decider *by) {
     lurgabel_started r = lurgabel_layout4_start(c, operation);
@@ -529,7 +536,8 @@ LURGABEL_CALL lurgabel_answer lurgabel_start(lurgabel_controller *c, lurgabel_op
     return lurgabel_start_by(c, operation, NULL);
 }
 
-/* Moves one word of the operation in progress; `bits` is how many bits it changed in the flash. */
+/* Moves one word of the operation in progress; `bits` is how many bits it changed in the flash. A read moves the stored
+ * word into its queue, or ones from its first denied page on. */
 LURGABEL_CALL lurgabel_answer lurgabel_step(lurgabel_controller *c, uint32_t *image, size_t image_words,
                                             lurgabel_movement *movement, uint32_t *bits) {
     lurgabel_stepped r = lurgabel_layout4_step(c, image, image_words);
@@ -558,7 +566,8 @@ LURGABEL_CALL lurgabel_answer lurgabel_pop(lurgabel_controller *c, uint32_t *wor
 
 /* Runs a whole operation: start, steps, pushes and pops until it is finished and drained. A program takes its words
  * from the first `count` places of the buffer, a read puts its words there; an erase leaves the buffer alone. A denied
- * read answers LURGABEL_DENIED and puts ones there. `bits` is the sum over the steps. */
+ * read answers LURGABEL_DENIED and puts its words there too: the stored ones before its first denied page, then ones.
+ * `bits` is the sum over the steps. */
 LURGABEL_CALL lurgabel_answer lurgabel_run_by(lurgabel_controller *c, uint32_t *image, size_t image_words,
                                               lurgabel_operation operation, uint32_t *buffer, size_t buffer_words,
                                               uint32_t *bits, lurgabel_decider *by) {

@@ -1,11 +1,11 @@
-/* Who decides: every decider, as every call that rights can deny names it. */
+/* Who decides a page: every decider, as every call that rights can deny names it. */
 #include "tests.h"
 
 static lurgabel_decider unless(bool allowed, lurgabel_decider decider) {
     return allowed ? LURGABEL_NO_DECIDER : decider;
 }
 
-static bool told(lurgabel_answer answer, lurgabel_decider by, lurgabel_decider expected) {
+bool told(lurgabel_answer answer, lurgabel_decider by, lurgabel_decider expected) {
     return answer == (expected == LURGABEL_NO_DECIDER ? LURGABEL_ACCEPTED : LURGABEL_DENIED) && by == expected;
 }
 
@@ -169,87 +169,4 @@ void test_deciders(void) {
     test_bank_decides(locked(), LURGABEL_INFORMATION, "bank erase over closed seed pages");
     test_bank_decides(open_everywhere(), LURGABEL_DATA, "bank erase over allowed pages");
     test_bank_decides(open_everywhere(), LURGABEL_INFORMATION, "bank erase over open seed pages");
-}
-
-/* ---- the first denied page ------------------------------------------------------------------------------------- */
-
-/* The pages of a partition's type from an address on, and who denies reading each of them. */
-typedef struct denied_pages {
-    uint32_t partition, start, count;
-    lurgabel_decider by[32];
-} denied_pages;
-
-/* From the last word of a page to the first one of another. */
-static lurgabel_operation read_over(const denied_pages *pages, uint32_t first, uint32_t last) {
-    return operation(LURGABEL_READ, pages->partition, 0, pages->start + first * 1024 + 1020,
-                     first == last ? 1 : (last - first - 1) * 256 + 2);
-}
-
-static lurgabel_decider first_named(const denied_pages *pages, uint32_t first, uint32_t last) {
-    while (first < last && pages->by[first] == LURGABEL_NO_DECIDER) {
-        first++;
-    }
-    return pages->by[first];
-}
-
-/* Every read over as many pages as a read can cover. */
-static void test_reads_over(lurgabel_controller c, const denied_pages *pages, const char *what) {
-    uint32_t first, last;
-    for (first = 0; first < pages->count; first++) {
-        for (last = first; last < first + 5 && last < pages->count; last++) {
-            test_operation(c, read_over(pages, first, last), first_named(pages, first, last), what, first * 32 + last);
-        }
-    }
-}
-
-/* Regions that overlap, one that is off, and pages that none holds, over both banks. */
-static void test_first_denied_data_page(uint32_t default_rights, lurgabel_decider d) {
-    const lurgabel_decider none = LURGABEL_NO_DECIDER, r1 = LURGABEL_BY_REGION_1, r2 = LURGABEL_BY_REGION_2,
-                           r4 = LURGABEL_BY_REGION_4, r6 = LURGABEL_BY_REGION_6, r7 = LURGABEL_BY_REGION_7;
-    const denied_pages pages = {
-        LURGABEL_DATA, 0, 32,
-        {d,  d,  r1, none, r1, r1, none, none, r2, r2, none, d, d, d, r4, r4,
-         r4, r4, d,  r6,   r6, r6, d,    d,    d,  d,  d,    d, d, d, r7, r7},
-    };
-    lurgabel_controller c = locked();
-    c.default_rights = default_rights;
-    c.regions[0] = region(3, 1, 1, LURGABEL_CAN_READ);
-    c.regions[1] = region(2, 4, 1, 0);
-    c.regions[2] = region(8, 2, 1, LURGABEL_CAN_PROGRAM | LURGABEL_CAN_ERASE);
-    c.regions[3] = region(4, 7, 1, LURGABEL_CAN_READ);
-    c.regions[4] = region(14, 4, 1, 0);
-    c.regions[5] = region(20, 4, 0, 0);
-    c.regions[6] = region(19, 3, 1, LURGABEL_CAN_ERASE);
-    c.regions[7] = region(30, 2, 1, 0);
-    test_reads_over(c, &pages, "first denied data page");
-}
-
-/* Seed pages between others, in bank 0; bank 1 has none. */
-static void test_first_denied_info_page(uint32_t bank, lurgabel_decider creator, lurgabel_decider owner,
-                                        bool provision, bool locked_seeds) {
-    const lurgabel_decider none = LURGABEL_NO_DECIDER, s = LURGABEL_BY_PAGE_SETTING;
-    const denied_pages pages = {
-        LURGABEL_INFORMATION, bank * 0x4000, 10,
-        {none, creator, owner, none, s, none, none, none, s, none},
-    };
-    lurgabel_controller c = open_everywhere();
-    lurgabel_page_setting *settings = c.info_pages + bank * 13;
-    c.provision_enabled = provision;
-    c.seeds_locked = locked_seeds;
-    settings[2].on = 0;
-    settings[4].on = 0;
-    settings[8].rights = LURGABEL_CAN_PROGRAM | LURGABEL_CAN_ERASE;
-    test_reads_over(c, &pages, "first denied information page");
-}
-
-void test_first_denied_page(void) {
-    const lurgabel_decider none = LURGABEL_NO_DECIDER, s = LURGABEL_BY_PAGE_SETTING, lock = LURGABEL_BY_SEED_LOCK;
-    test_first_denied_data_page(LURGABEL_CAN_READ, none);
-    test_first_denied_data_page(LURGABEL_CAN_PROGRAM | LURGABEL_CAN_ERASE, LURGABEL_BY_DEFAULT);
-    test_first_denied_info_page(0, lock, lock, false, false);
-    test_first_denied_info_page(0, lock, lock, false, true);
-    test_first_denied_info_page(0, none, s, true, false);
-    test_first_denied_info_page(0, lock, s, true, true);
-    test_first_denied_info_page(1, none, s, false, true);
-    test_first_denied_info_page(1, none, s, true, false);
 }

@@ -40,7 +40,8 @@ int main(void) {
     run_group("values of every call", test_values);
     run_group("rounds", test_rounds);
     run_group("deciders of every page", test_deciders);
-    run_group("decider of the first denied page", test_first_denied_page);
+    run_group("denied reads", test_denied_reads);
+    run_group("first denied page of every read", test_first_denied_page);
     run_group("deciders reported", test_reports);
     run_group("image length", test_image_length);
     run_group("texts", test_texts);

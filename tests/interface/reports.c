@@ -79,7 +79,8 @@ static void test_forms_of_view(lurgabel_controller c, uint32_t page) {
 
 static void test_forms(void) {
     static lurgabel_controller (*const states[])(void) = {
-        zeros, uninitialised, disabled, locked, ready, open_everywhere, littered, reading, reading_denied, programming,
+        zeros, uninitialised, disabled, locked, ready, open_everywhere, littered, reading, reading_denied, reading_cut,
+        programming,
     };
     static const uint32_t addresses[] = {0, 0x7FFC, 2, 0x8000}, pages[] = {0, 31, 32};
     const lurgabel_operation operations[] = {
@@ -167,9 +168,9 @@ static void test_host_reports_none(lurgabel_controller c, size_t image_words, ui
 
 static void test_view_reports_none(lurgabel_controller c, size_t image_words, uint32_t page, lurgabel_answer answer) {
     lurgabel_decider by = UNWRITTEN;
-    lurgabel_answer told;
-    bool seen = lurgabel_view_by(&c, image, image_words, page, &told, &by) != NULL;
-    check_at(told == answer && by == LURGABEL_NO_DECIDER && seen == (answer == LURGABEL_ACCEPTED), "view reports none",
+    lurgabel_answer given;
+    bool seen = lurgabel_view_by(&c, image, image_words, page, &given, &by) != NULL;
+    check_at(given == answer && by == LURGABEL_NO_DECIDER && seen == (answer == LURGABEL_ACCEPTED), "view reports none",
              answer);
 }
 
@@ -230,21 +231,22 @@ static void test_round_reports(void) {
 
 /* ---- a denied read, and the record ----------------------------------------------------------------------------- */
 
-/* Reported at its start; its steps are accepted and deliver ones, in rounds too. */
+/* Reported at its start; its steps are accepted and deliver a stored word and two of ones, in rounds too. */
 static void test_denied_read_by_steps(void) {
-    lurgabel_controller c = locked();
+    lurgabel_controller c = ready();
     lurgabel_controller expected = c;
     lurgabel_decider by = UNWRITTEN;
     lurgabel_movement movement;
     lurgabel_round_reply r;
     uint32_t word, i;
-    c.regions[3] = expected.regions[3] = region(0, 1, 1, LURGABEL_CAN_PROGRAM | LURGABEL_CAN_ERASE);
+    c.regions[3] = expected.regions[3] = region(1, 1, 1, LURGABEL_CAN_PROGRAM | LURGABEL_CAN_ERASE);
     expected.recorded = LURGABEL_RECORDED(LURGABEL_DENIED);
-    expected.last_address = 0x40;
-    expected.progress.operation = on_data(LURGABEL_READ, 0x40, 3);
+    expected.last_address = 0x400;
+    expected.progress.operation = on_data(LURGABEL_READ, 0x3FC, 3);
+    expected.progress.readable = 1;
     expected.progress.running = 1;
     memset(image, 0, sizeof image);
-    check(lurgabel_start_by(&c, on_data(LURGABEL_READ, 0x40, 3), &by) == LURGABEL_DENIED, "denied read");
+    check(lurgabel_start_by(&c, on_data(LURGABEL_READ, 0x3FC, 3), &by) == LURGABEL_DENIED, "denied read");
     check(by == LURGABEL_BY_REGION_3 && same(&expected, &c), "it starts, and is recorded");
     check(lurgabel_step(&c, image, IMAGE_WORDS, &movement, NULL) == LURGABEL_ACCEPTED && movement == LURGABEL_MOVED,
           "its first step");
@@ -254,11 +256,11 @@ static void test_denied_read_by_steps(void) {
     check(lurgabel_step(&c, image, IMAGE_WORDS, &movement, NULL) == LURGABEL_ACCEPTED && movement == LURGABEL_FINISHED,
           "its last step");
     for (i = 0; i < 3; i++) {
-        check_at(lurgabel_pop(&c, &word) == LURGABEL_ACCEPTED && word == LURGABEL_ERASED, "ones", i);
+        check_at(lurgabel_pop(&c, &word) == LURGABEL_ACCEPTED && word == (i == 0 ? 0 : LURGABEL_ERASED), "its word", i);
     }
 }
 
-/* Whoever decided: the kind and the address are recorded, and nothing else. */
+/* Whoever decided: the kind and the operation's own address are recorded, and nothing else. */
 static void test_recorded_alike(lurgabel_controller c, lurgabel_operation o, lurgabel_decider decider,
                                 const char *what) {
     lurgabel_controller whole = c;
@@ -277,12 +279,12 @@ static void test_recorded_alike(lurgabel_controller c, lurgabel_operation o, lur
 static void test_not_recorded(void) {
     lurgabel_controller c = littered();
     c.regions[7] = region(2, 1, 1, LURGABEL_CAN_READ);
-    test_recorded_alike(c, on_data(LURGABEL_PROGRAM, 0x800, 1), LURGABEL_BY_REGION_7, "region's denial");
+    test_recorded_alike(c, on_data(LURGABEL_PROGRAM, 0x844, 1), LURGABEL_BY_REGION_7, "region's denial");
     c.default_rights = LURGABEL_CAN_READ;
-    test_recorded_alike(c, on_data(LURGABEL_PAGE_ERASE, 0x400, 0), LURGABEL_BY_DEFAULT, "default's denial");
-    test_recorded_alike(c, operation(LURGABEL_PROGRAM, 1, 1, 0, 1), LURGABEL_BY_PAGE_SETTING, "setting's denial");
-    test_recorded_alike(c, operation(LURGABEL_PROGRAM, 1, 0, 0x800, 1), LURGABEL_BY_SEED_LOCK, "seed lock's denial");
-    test_recorded_alike(c, on_data(LURGABEL_BANK_ERASE, 0x4000, 0), LURGABEL_BY_BANK_PERMISSION, "bank's denial");
+    test_recorded_alike(c, on_data(LURGABEL_PAGE_ERASE, 0x7FC, 0), LURGABEL_BY_DEFAULT, "default's denial");
+    test_recorded_alike(c, operation(LURGABEL_PROGRAM, 1, 1, 4, 1), LURGABEL_BY_PAGE_SETTING, "setting's denial");
+    test_recorded_alike(c, operation(LURGABEL_PROGRAM, 1, 0, 0xBFC, 1), LURGABEL_BY_SEED_LOCK, "seed lock's denial");
+    test_recorded_alike(c, on_data(LURGABEL_BANK_ERASE, 0x47FC, 0), LURGABEL_BY_BANK_PERMISSION, "bank's denial");
 }
 
 void test_reports(void) {

@@ -113,7 +113,7 @@ static void test_host_bank(void) {
 }
 
 static void test_step_in(uint32_t bank, lurgabel_controller c) {
-    static const asked_read reads[] = {{0, 0, LURGABEL_ACCEPTED}, {0x4000, 1, LURGABEL_ACCEPTED}};
+    static const asked_read reads[] = {{0, 0, LURGABEL_ACCEPTED}, {0x7FFC, 1, LURGABEL_ACCEPTED}};
     test_banks(c, bank, reads[0]);
     test_banks(c, bank, reads[1]);
 }
@@ -127,17 +127,25 @@ static lurgabel_controller erasing_info_page(uint32_t index) {
     return c;
 }
 
-/* Information pages are their bank's; a read that runs from bank 0 into bank 1 changes its bank. */
-static void test_step_bank(void) {
+/* A read of the last word of bank 0 and the first one of bank 1 changes its bank, also if a page of it is denied. */
+static void test_read_into_bank_1(uint32_t denied_page, uint32_t readable) {
     lurgabel_controller c = in_progress(LURGABEL_READ, 0x3FFC, 2);
+    c.regions[5] = region(denied_page, 1, 1, LURGABEL_CAN_PROGRAM);
+    c.progress.readable = readable;
+    test_step_in(0, c);
+    c.progress.moved = 1;
+    test_step_in(1, c);
+}
+
+/* Information pages are their bank's. */
+static void test_step_bank(void) {
     test_step_in(0, reading());
     test_step_in(1, erasing_bank());
     test_step_in(0, erasing_info_page(12));
     test_step_in(1, erasing_info_page(13));
-    c.progress.readable = 2;
-    test_step_in(0, c);
-    c.progress.moved = 1;
-    test_step_in(1, c);
+    test_read_into_bank_1(14, 2);
+    test_read_into_bank_1(15, 0);
+    test_read_into_bank_1(16, 1);
 }
 
 /* D moves the border of the banks: with 10 data pages bank 1 begins at 0x2800. */

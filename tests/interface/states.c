@@ -91,6 +91,13 @@ lurgabel_controller reading_denied(void) {
     return c;
 }
 
+lurgabel_controller reading_cut(void) {
+    lurgabel_controller c = in_progress(LURGABEL_READ, 0x3F8, 4);
+    c.regions[0] = region(1, 1, 1, LURGABEL_CAN_PROGRAM);
+    c.progress.readable = 2;
+    return c;
+}
+
 lurgabel_controller erasing_page(void) {
     return in_progress(LURGABEL_PAGE_ERASE, 0x7FFC, 0);
 }

@@ -28,6 +28,7 @@ void test_operation_fields(void);
 void test_values(void);
 void test_rounds(void);
 void test_deciders(void);
+void test_denied_reads(void);
 void test_first_denied_page(void);
 void test_reports(void);
 void test_image_length(void);
@@ -74,7 +75,8 @@ lurgabel_controller in_progress(uint32_t kind, uint32_t address, uint32_t count)
 /* Four words at 0x40: one moved, two queued. Words of an earlier read and a recorded error are there as well. */
 lurgabel_controller programming(void);
 lurgabel_controller reading(void);
-lurgabel_controller reading_denied(void);  /* a read that delivers ones */
+lurgabel_controller reading_denied(void);  /* a read of a denied page: ones alone */
+lurgabel_controller reading_cut(void);     /* two words of page 0, and two of page 1, which is denied */
 lurgabel_controller erasing_page(void);
 lurgabel_controller erasing_bank(void);
 /* Ready, with litter wherever no rule looks: no operation runs, and the queues are empty. */
@@ -108,6 +110,9 @@ extern uint32_t buffer[LURGABEL_MAX_COUNT];
 
 /* What no call reports, so that it shows whether *by was written. */
 #define UNWRITTEN ((lurgabel_decider)77)
+
+/* Denied by the one who is expected; accepted if that is nobody. */
+bool told(lurgabel_answer answer, lurgabel_decider by, lurgabel_decider expected);
 
 /* ---- every call, with inputs that a ready controller takes ---------------------------------------------------- */
 

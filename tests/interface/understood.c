@@ -154,6 +154,14 @@ static void test_progress_understood(void) {
     c = reading_denied();
     check(lurgabel_step(&c, image, IMAGE_WORDS, NULL, NULL) == LURGABEL_ACCEPTED &&
               c.read_queue.words[0] == LURGABEL_ERASED, "denied read");
+    image[255] = 98;
+    image[256] = 97;
+    c = reading_cut();
+    c.progress.moved = 1;
+    check(lurgabel_step(&c, image, IMAGE_WORDS, NULL, NULL) == LURGABEL_ACCEPTED && c.read_queue.words[0] == 98,
+          "last word before a denied page");
+    check(lurgabel_step(&c, image, IMAGE_WORDS, NULL, NULL) == LURGABEL_ACCEPTED &&
+              c.read_queue.words[1] == LURGABEL_ERASED, "first word of a denied page");
 }
 
 /* A started operation stands in the state field for field. */
@@ -170,6 +178,14 @@ static void test_start_understood(void) {
     expected.progress.readable = 0;
     check(lurgabel_start(&c, expected.progress.operation) == LURGABEL_ACCEPTED && same(&expected, &c),
           "program started");
+    c = littered();
+    c.regions[0] = reading_cut().regions[0];
+    expected = c;
+    expected.progress = reading_cut().progress;
+    expected.recorded = LURGABEL_RECORDED(LURGABEL_DENIED);
+    expected.last_address = 0x400;
+    check(lurgabel_start(&c, expected.progress.operation) == LURGABEL_DENIED && same(&expected, &c),
+          "denied read started");
 }
 
 void test_understood(void) {

@@ -62,6 +62,16 @@ static void test_valid_programming(void) {
     INVALID_WITH(programming, program_queue.length, 4);
 }
 
+/* Over the creator's seed page, which is closed, from the last word of page 0 to the first one of page 2. */
+static lurgabel_controller reading_seed(void) {
+    lurgabel_controller c = open_everywhere();
+    c.seeds_locked = 1;
+    c.progress.operation = operation(LURGABEL_READ, LURGABEL_INFORMATION, 0, 0x3FC, 258);
+    c.progress.readable = 1;
+    c.progress.running = 1;
+    return c;
+}
+
 static void test_valid_reading(void) {
     INVALID_WITH(reading, progress.readable, 0);
     INVALID_WITH(reading, progress.readable, 3);
@@ -70,8 +80,38 @@ static void test_valid_reading(void) {
     VALID_WITH(reading, progress.moved, 3);
     INVALID_WITH(reading, progress.moved, 4);
     VALID_WITH(reading_denied, progress.moved, 3);
+    INVALID_WITH(reading_denied, progress.readable, 1);
     INVALID_WITH(reading_denied, progress.readable, 4);
     INVALID_WITH(reading_denied, default_rights, LURGABEL_CAN_READ);
+}
+
+/* What is readable is counted from the settings and the inputs as they are. */
+static void test_valid_reading_cut(void) {
+    VALID_WITH(reading_cut, progress.readable, 2);
+    INVALID_WITH(reading_cut, progress.readable, 0);
+    INVALID_WITH(reading_cut, progress.readable, 1);
+    INVALID_WITH(reading_cut, progress.readable, 3);
+    INVALID_WITH(reading_cut, progress.readable, 4);
+    VALID_WITH(reading_cut, progress.moved, 3);
+    INVALID_WITH(reading_cut, progress.moved, 4);
+    INVALID_WITH(reading_cut, default_rights, LURGABEL_CAN_PROGRAM);
+    VALID_WITH(reading_cut, default_rights, LURGABEL_CAN_READ);
+    INVALID_WITH(reading_cut, regions[0].on, 0);
+    INVALID_WITH(reading_cut, regions[0].rights, LURGABEL_CAN_READ);
+    VALID_WITH(reading_cut, regions[0].rights, 0);
+    INVALID_WITH(reading_cut, regions[0].first_page, 0);
+    INVALID_WITH(reading_cut, regions[0].first_page, 2);
+    VALID_WITH(reading_cut, regions[0].page_count, 31);
+    INVALID_WITH(reading_cut, progress.operation.address, 0x3FC);
+    VALID_WITH(reading_cut, progress.operation.count, 3);
+    INVALID_WITH(reading_cut, progress.operation.count, 1);
+    VALID_WITH(reading_seed, progress.readable, 1);
+    INVALID_WITH(reading_seed, progress.readable, 258);
+    INVALID_WITH(reading_seed, seeds_locked, 0);
+    VALID_WITH(reading_seed, provision_enabled, 0);
+    VALID_WITH(reading_seed, info_pages[1].on, 0);
+    INVALID_WITH(reading_seed, info_pages[0].on, 0);
+    VALID_WITH(reading_seed, info_pages[2].on, 0);
 }
 
 static void test_valid_erasing(void) {
@@ -118,6 +158,7 @@ void test_valid_states(void) {
     test_valid_not_running();
     test_valid_programming();
     test_valid_reading();
+    test_valid_reading_cut();
     test_valid_erasing();
     test_valid_recorded();
     test_valid_lost_turns();

@@ -84,7 +84,7 @@ static void test_run(void) {
           "no buffer");
 }
 
-/* A denied whole read says so and puts ones into the buffer. */
+/* A whole read of a denied page says so and puts ones into the buffer. */
 static void test_run_denied(void) {
     lurgabel_controller c = locked();
     uint32_t words[3] = {1, 2, 3};

@@ -78,8 +78,8 @@ module _ (s : List ℕ) (f : Flash) where
           let below : a .0 < 2 * decode s .setup .pages * 1024 = leb-false _ _ (check-passed _ OutOfRange refl range) in
           rw host-pages (fits .0, omega (arith, word-at-inside (decode s .setup .pages) false 0 a (data-inside (decode s .setup .pages) 0 (pageOf a) (omega arith))))
 
-      pub read-accepted : toldHostWord (hostAnswer (decode s) f a) (getD (f .words) (wordAt (getD s pagesAt 0) false 0 a .0) 0) ≡ hostReadIn s f a
-      unfolding hostReadIn hostRead delivered
+      pub read-accepted : toldHostWord (hostAnswer (decode s) f a) (delivered f (wordAt (getD s pagesAt 0) false 0 a)) ≡ hostReadIn s f a
+      unfolding hostReadIn hostRead
       read-accepted = rw (h, host-pages)
 
     pub read-refused : accepts (hostAnswer (decode s) f a) ≡ false → toldHostWord (hostAnswer (decode s) f a) 0 ≡ hostReadIn s f a

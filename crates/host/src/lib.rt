@@ -55,7 +55,7 @@ fn told_word(answer: Answer, word: u32) -> ToldHostWord
     }
 }
 
-// The word that is stored at an address of the data pages.
+// The true word at an address of the data pages.
 pub fn host_read(s: &Registers, image: &[u32], at: ByteAddress) -> ToldHostWord
     ensures { λ r. ⌜ r ≡ hostReadIn (now (s .entry)) (flash (now (image .entry))) at ⌝ }
 {
@@ -64,8 +64,7 @@ pub fn host_read(s: &Registers, image: &[u32], at: ByteAddress) -> ToldHostWord
         return told_word(answer, 0);
     }
     let place = geometry::word_at(registers::pages(s), false, 0, at);
-    let i = place.0 as usize;
-    told_word(answer, image[i])
+    told_word(answer, words::delivered(image, place))
 }
 
 // Checks 1, 2, 3, 7 and 9, in this order.

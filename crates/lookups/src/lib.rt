@@ -1,19 +1,24 @@
-// Who may touch a page, and checks 5, 7, 8 and 9, on the state where it lies.
+// Who may touch a page, checks 5, 7, 8 and 9, and what they record, on the state where it lies.
 ghost use mathlib.Core.Path.{_≡_};
-ghost use mathlib.Core.Bool.{true, false, not};
+ghost use mathlib.Core.Bool.{true, false, not, _&&_, _||_};
+ghost use lib.Dec.{eqb};
 ghost use Prim.Native.Nat.{_+_, _<_, _≤_, _%_};
 ghost use lib.ListN.{getD};
-ghost use Rattle.model.specs.Rights.{dataRuling, infoRuling, rulingAt, pageGrants, leading, allowedWords, denied, deciderOf};
-ghost use Rattle.model.specs.Kinds.{isBankErase};
+ghost use Rattle.model.specs.Rights.{dataRuling, infoRuling, rulingAt, pageGrants, leading, allowedWords, denied, deciderOf, readableWords};
+ghost use Rattle.model.specs.Kinds.{isRead, isBankErase};
 ghost use Rattle.model.specs.Places.{spanWords};
 ghost use mathlib.Core.Bool.{cond};
-ghost use Rattle.model.specs.Refusals.{isDenied, check};
+ghost use Rattle.model.specs.Refusals.{numberOf, accepts, isDenied, isDeniedRead, check};
 ghost use Rattle.model.specs.Checks.{malformed, operationAnswer};
+ghost use Rattle.model.specs.Errors.{errorAddress, recorded};
 ghost use Rattle.model.specs.State.{pageOff};
 ghost use Rattle.registers.specs.Layout.{defaultAt};
-ghost use Rattle.registers.specs.Registers.{regionsOf, infoOf, settingsOf, inputsAt, standsFor};
+ghost use Rattle.registers.specs.Registers.{regionsOf, infoOf, settingsOf, inputsAt, errorsAt, standsFor};
+ghost use Rattle.lookups.specs.Answered.{Answered};
 use model::Answer;
+use model::ByteAddress;
 use model::Decider;
+use model::Errors;
 use model::INFO_SETTINGS;
 use model::Operation;
 use model::PAGE_BYTES;
@@ -198,13 +203,57 @@ pub fn operation_answer(s: &Registers, o: Operation) -> Answer
     refusals::or_else(range, refusals::or_else(window, rights))
 }
 
-// How many words of a read are readable, by the answer of its checks.
-pub fn readable_by(answer: Answer, o: Operation) -> u32
-    ensures { λ r. ⌜ r ≡ cond (isDenied answer) 0 (o .count) ⌝ }
+// A denied read is refused and still starts.
+pub fn is_denied_read(o: Operation, answer: Answer) -> bool
+    ensures { λ r. ⌜ r ≡ isDeniedRead o (numberOf answer) ⌝ }
 {
-    if refusals::is_denied(answer) {
-        0
-    } else {
-        o.count
+    let read = places::is_read(o);
+    let denied = refusals::is_denied(answer);
+    read & denied
+}
+
+// How many words of a read are readable: those before the first denied page, and all if its checks accept it.
+pub fn readable(s: &Registers, o: Operation, answer: Answer) -> u32
+    requires { ⌜ answer ≡ operationAnswer (standsFor (now s) .setup) o ⌝ }
+    ensures { λ r. ⌜ r ≡ cond (isDeniedRead o (numberOf answer)) (readableWords (standsFor (now (s .entry)) .setup) o) (o .count) ⌝ }
+{
+    if is_denied_read(o, answer) {
+        return allowed_words(s, o);
     }
+    o.count
+}
+
+// Whether a read that passes 5 and 7 has so many readable words: a read in progress does, be it denied or not.
+pub fn read_fits(s: &Registers, o: Operation, readable: u32) -> bool
+    ensures { λ r. ⌜ r ≡ (isRead o && ((accepts (operationAnswer (standsFor (now (s .entry)) .setup) o) || isDenied (operationAnswer (standsFor (now (s .entry)) .setup) o)) && eqb readable (readableWords (standsFor (now (s .entry)) .setup) o))) ⌝ }
+{
+    let read = places::is_read(o);
+    let formed = refusals::accepts(checks::form_answer(o));
+    let outside = checks::out_of_range(registers::pages(s), o);
+    if !(read & (formed & !outside)) {
+        return false;
+    }
+    readable == allowed_words(s, o)
+}
+
+// Where a refusal is recorded: of a denied read at its first denied word, else at the operation's own address.
+fn error_address(s: &Registers, o: Operation, answer: Answer) -> ByteAddress
+    requires { ⌜ Answered (now s) o answer ⌝ }
+    ensures { λ r. ⌜ r ≡ errorAddress (standsFor (now (s .entry)) .setup) (numberOf answer) o ⌝ }
+{
+    if is_denied_read(o, answer) {
+        let before = allowed_words(s, o);
+        let first_denied = places::span_address(o, before);
+        return ByteAddress(first_denied as u32);
+    }
+    o.address
+}
+
+// The error record with a refusal of 5, 7, 8 or 9 in it.
+pub fn recorded(s: &Registers, o: Operation, answer: Answer) -> Errors
+    requires { ⌜ Answered (now s) o answer ⌝ }
+    ensures { λ r. ⌜ r ≡ recorded (numberOf answer) (errorAddress (standsFor (now (s .entry)) .setup) (numberOf answer) o) (errorsAt (now (s .entry))) ⌝ }
+{
+    let address = error_address(s, o, answer);
+    refusals::recorded(answer, address, registers::errors(s))
 }

@@ -2,7 +2,7 @@
 use Prim.Native.Nat.{ℕ, _+_, _≤_, _<_}
 use native.Mathlib.Omega.{arith}
 use mathlib.Core.Path.{_≡_, refl, sym, ap, _∙_}
-use mathlib.Core.Bool.{Bool, true, false, _&&_, _||_, not, cond, false≢true}
+use mathlib.Core.Bool.{Bool, true, false, not}
 use mathlib.Core.Logic.{⊎-elim}
 use mathlib.Core.List.{[], _∷_}
 use lib.Dec.{leb}
@@ -11,20 +11,17 @@ use borrow.Author.Tests.{eqb-false, leb-false, not-false}
 use denote.Enum.Declared.{tagOf}
 use types.Run.{OneOf}
 use Rattle.model.specs.Geometry.{imageWords}
-use Rattle.model.specs.Kinds.{isRead, isBankErase}
+use Rattle.model.specs.Kinds.{isBankErase}
 use Rattle.model.specs.Queue.{isEmpty, isFull, pushed}
 use Rattle.model.specs.State.{Flash, withQueues, withPrograms, isBusy, operationOf, movedOf}
-use Rattle.model.specs.Rights.{readableWords}
-use Rattle.model.specs.Refusals.{accepts, isDenied, check, orElse, readyAnswer, refused}
-use Rattle.model.specs.Checks.{operationAnswer}
+use Rattle.model.specs.Refusals.{accepts, check, orElse, readyAnswer, refused}
 use Rattle.model.specs.Settings.{settingAnswer}
 use Rattle.model.specs.Valid.{valid, validWith}
-use Rattle.model.specs.Steps.{starts, pushAnswer, push, popAnswer, stalls, advance, still, stepProgress, step}
+use Rattle.model.specs.Steps.{pushAnswer, push, popAnswer, stalls, advance, still, stepProgress, step}
 use Rattle.model.specs.declared.Operation.{Operation}
 use Rattle.model.specs.declared.Work.{Work}
 use Rattle.model.specs.declared.Work.the-variants.{Read, Program, Erase}
 use Rattle.model.specs.declared.Progress.the-variants.{Idle, Running}
-use Rattle.model.specs.declared.Setup.{Setup}
 use Rattle.model.specs.declared.Controller.{Controller}
 use Rattle.model.specs.declared.Stepped.{Stepped}
 use Rattle.model.specs.declared.Movement.the-variants.{None, Stalled}
@@ -38,19 +35,6 @@ use Rattle.model.proofs.Moving.{Moving, with-valid, with-length}
 use Rattle.model.proofs.Order.{pages-bound}
 use Rattle.model.proofs.Answers.{both-accept, check-passed}
 use Rattle.model.proofs.StepLaws.{step-ready}
-use Rattle.model.proofs.Valid.{readable-by-answer}
-
-either : (x y z : Bool) → (x || (y && z)) ≡ true → (x || z) ≡ true
-either true y z h = refl
-either false true z h = h
-either false false z h = absurd (false≢true h)
-
--- What starts was accepted or denied, so its answer says how many words are readable.
-pub starts-readable : (s : Setup) (o : Operation) {a : Answer} → a ≡ operationAnswer s o → starts o a ≡ true
-    → cond (isDenied a) 0 (o .count) ≡ readableWords s o
-starts-readable s o {a} e b =
-    let told : starts o (operationAnswer s o) ≡ true = sym (ap (starts o) e) ∙ b in
-    rw e (sym (readable-by-answer s o (either (accepts (operationAnswer s o)) (isRead o) (isDenied (operationAnswer s o)) told)))
 
 -- Checks 1, 2 and 3 accept a valid state only.
 pub ready-valid : (v : Bool) (p : Phase) → accepts (readyAnswer v p) ≡ true → v ≡ true

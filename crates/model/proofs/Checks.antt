@@ -1,14 +1,16 @@
 -- What an operation that passes check 5 is known to be. Assumes nothing.
 use Prim.Native.Nat.{_≤_, _<_}
 use native.Mathlib.Omega.{arith}
-use mathlib.Core.Path.{_≡_}
-use mathlib.Core.Bool.{true, false, _&&_, _||_, and-true}
+use mathlib.Core.Path.{_≡_, refl}
+use mathlib.Core.Bool.{Bool, true, false, _&&_, _||_, not, and-true}
 use lib.Dec.{ltb, eqb}
 use borrow.Author.Tests.{ltb-false, leb-false, eqb-false, lt-ltb, lt-leb, le-leb, ne-eqb}
 use Rattle.model.specs.Kinds.{isPageErase, isBankErase, isInformation, noKind, noPartition, usesCount, usesType, maxCount}
 use Rattle.model.specs.Places.{spanWords}
+use Rattle.model.specs.Refusals.{accepts, check}
 use Rattle.model.specs.Checks.{unaligned, badCount, malformed}
 use Rattle.model.specs.declared.Operation.{Operation}
+use Rattle.model.specs.declared.Answer.the-variants.{Malformed}
 use Rattle.model.proofs.Bool.{or-left, or-right, by-test}
 
 -- Each test of check 5 fails.
@@ -51,6 +53,11 @@ span-words-le o h n =
     (λ e.
     let moves : o .kind < 2 = omega (arith, well-formed o h .kind, eqb-false (o .kind) 2 e, eqb-false (o .kind) 3 n) in
     rw e (count-bound o h moves .1))
+
+-- Check 5 accepts what is not malformed.
+pub formed : (malformed : Bool) → accepts (check malformed Malformed) ≡ not malformed
+formed true = refl
+formed false = refl
 
 -- ---- check 5 by kind
 

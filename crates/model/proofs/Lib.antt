@@ -10,6 +10,7 @@ pub mod Deciders
 pub mod Pages
 pub mod Checks
 pub mod Answers
+pub mod DeniedReads
 pub mod Lifecycle
 pub mod Flashes
 pub mod Valid

@@ -148,14 +148,21 @@ limit-le true true d t h = omega (arith, info-count-most t)
 limit-le true false d t h = omega (arith, info-count-most t)
 limit-le false b d t h = omega arith
 
--- The address of each word of an operation in range fits 32 bits.
+-- The end of an operation in range fits 32 bits,
+pub span-fits : (d : ℕ) (o : Operation) → 10 ≤ d → d ≤ 256 → outOfRange d o ≡ false → isBankErase o ≡ false
+    → spanAddress o (spanWords o) .0 ≤ 524288
+span-fits d o g h r b =
+    let end : spanAddress o (spanWords o) .0 ≤ spanLimit d o = span-end d o g r b in
+    let limit : spanLimit d o ≤ 524288 = limit-le (isInformation o) (ltb (pageOf (o .address) .0) d) d (o .info) h in
+    omega arith
+
+-- and so does the address of each of its words.
 pub span-address-fits :
     (d : ℕ) (o : Operation) (k : ℕ) → 10 ≤ d → d ≤ 256 → outOfRange d o ≡ false → isBankErase o ≡ false →
     k < totalWords d o → spanAddress o k .0 < 524288
 unfolding totalWords
 span-address-fits d o k g h r b l =
-    let end : spanAddress o (spanWords o) .0 ≤ spanLimit d o = span-end d o g r b in
-    let limit : spanLimit d o ≤ 524288 = limit-le (isInformation o) (ltb (pageOf (o .address) .0) d) d (o .info) h in
+    let end = span-fits d o g h r b in
     let below : k < spanWords o = rw b at l in
     omega arith
 

@@ -1,7 +1,7 @@
 -- The look-up of rights and the span check, one turn of a loop at a time, and what the check says of each page, passed or not.
 -- Assumes nothing.
 use Prim.Native.Nat.{ℕ, zero, suc, _+_, _-_, _*_, _/_, _%_, _≤_, _<_, min}
-use native.Mathlib.Nat.{add-zero, add-assoc, sub-zero, min-zero, min-eq-left, min-eq-right, min-le-right}
+use native.Mathlib.Nat.{add-zero, add-assoc, sub-zero, min-zero, min-eq-left, min-eq-right, min-le-left, min-le-right, le-antisymm}
 use native.Mathlib.Numerals.{add-one}
 use native.Mathlib.Omega.{arith}
 use mathlib.Core.Path.{_≡_, refl, sym, _∙_}
@@ -166,7 +166,28 @@ first-denied s o l =
     let e : (from + 4 * allowedWords s o) / 1024 ≡ from / 1024 + passed = omega arith in
     rw e (leading-failed (pageGrants s o) (from / 1024) (spanPages o) (omega arith))
 
+-- The words before the first denied page are the allowed ones, and no others.
+pub before-denied : (s : Setup) (o : Operation) (k : ℕ) → allowedWords s o < spanWords o
+    → (k < allowedWords s o → pageOf (spanAddress o k) .0 < firstDenied s o .0)
+    × (pageOf (spanAddress o k) .0 < firstDenied s o .0 → k < allowedWords s o)
+unfolding allowedWords
+before-denied s o k l =
+    let from : ℕ = spanStart o .0 in
+    let passed : ℕ = leading (pageGrants s o) (record { 0 = from / 1024 }) (spanPages o) in
+    let least : allowedWords s o ≡ passed * 256 - from % 1024 / 4 = least-below _ _ l in
+    (λ before. omega arith, λ before. omega arith)
+
 -- ---- what check 9 says
+
+-- There are no more of them than the span has words,
+pub allowed-le : (s : Setup) (o : Operation) → allowedWords s o ≤ spanWords o
+unfolding allowedWords
+allowed-le s o = min-le-left _ _
+
+-- and all are allowed of a span that is not denied.
+pub allowed-all : (s : Setup) (o : Operation) → isBankErase o ≡ false → denied s o ≡ false → allowedWords s o ≡ spanWords o
+unfolding denied
+allowed-all s o b h = le-antisymm (allowed-le s o) (ltb-false _ _ (rw b at h))
 
 -- Each page with a word of a span that is not denied grants the right.
 pub span-granted : (s : Setup) (o : Operation) (k : ℕ) → isBankErase o ≡ false → denied s o ≡ false → k < spanWords o

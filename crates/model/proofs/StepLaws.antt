@@ -1,14 +1,14 @@
 -- What start and step leave, and when. Assumes nothing.
 use Prim.Native.Nat.{ℕ}
 use mathlib.Core.Path.{_≡_, refl, ap}
-use mathlib.Core.Bool.{true, false, _&&_}
+use mathlib.Core.Bool.{true, false}
 use Rattle.model.specs.Words.{allOnes, programmed}
 use Rattle.model.specs.Kinds.{isRead}
 use Rattle.model.specs.Places.{placeOf}
 use Rattle.model.specs.Queue.{oldest}
 use Rattle.model.specs.State.{Flash, Leaves, stored, withWord}
 use Rattle.model.specs.Rights.{readableWords}
-use Rattle.model.specs.Refusals.{numberOf, accepts, isDenied, readyAnswer, refused}
+use Rattle.model.specs.Refusals.{numberOf, accepts, readyAnswer, refused}
 use Rattle.model.specs.Checks.{operationAnswer}
 use Rattle.model.specs.Valid.{validWith}
 use Rattle.model.specs.Steps.{startAnswer, workOf, started, start, stalls, advance, still, stepProgress, step}
@@ -23,16 +23,15 @@ use Rattle.model.specs.declared.Movement.the-variants.{None, Stalled}
 use Rattle.model.specs.declared.Answer.{Answer}
 use Rattle.model.specs.declared.Stepped.{Stepped}
 use Rattle.model.specs.declared.Answer.the-variants.{Accepted, Unexpected}
-use Rattle.model.proofs.Bool.{and-left, and-right, by-test}
-use Rattle.model.proofs.Answers.{denied-if-told, ready-accepts}
+use Rattle.model.proofs.Bool.{by-test}
+use Rattle.model.proofs.Answers.{ready-accepts}
 use Rattle.model.proofs.Moving.{busy-ready, with-valid}
 
 -- ---- start
 
--- A denied read starts blank.
-pub blank-work : (s : Setup) (o : Operation) → (isRead o && isDenied (operationAnswer s o)) ≡ true → workOf s o ≡ Read o 0 0
-unfolding readableWords
-blank-work s o h = rw (and-left (isRead o) _ h, denied-if-told s o (and-right (isRead o) _ h))
+-- A read starts with its readable words.
+pub read-work : (s : Setup) (o : Operation) → isRead o ≡ true → workOf s o ≡ Read o 0 (readableWords s o)
+read-work s o h = rw h
 
 module _ (c : Controller) (o : Operation) where
   -- A start goes on to checks 5, 7, 8 and 9, or stops before them.

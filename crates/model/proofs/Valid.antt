@@ -1,30 +1,23 @@
--- Validity: its parts, tests over lists, one element at a time, and the readable words of a read by the answer of its
--- checks. Assumes nothing.
+-- Validity: its parts, and tests over lists, one element at a time. Assumes nothing.
 use Prim.Native.Nat.{ℕ, _+_, _≤_, _<_}
 use native.Mathlib.Numerals.{add-one}
 use mathlib.Core.Path.{_≡_, refl, sym, _∙_}
-use mathlib.Core.Bool.{Bool, true, false, _&&_, _||_, cond, and-assoc, and-true}
+use mathlib.Core.Bool.{Bool, true, _&&_, _||_, and-assoc, and-true}
 use mathlib.Core.List.{List}
-use lib.Dec.{leb, eqb}
+use lib.Dec.{leb}
 use lib.ListN.{length, getD, drop, drop-of-length-le}
 use lib.Seq.{drop-cons}
 use borrow.Author.Tests.{leb-true}
 use Rattle.model.specs.Geometry.{pagesFit}
 use Rattle.model.specs.State.{isReady}
-use Rattle.model.specs.Rights.{readableWords}
-use Rattle.model.specs.Refusals.{accepts, isDenied}
-use Rattle.model.specs.Checks.{operationAnswer}
 use Rattle.model.specs.Valid.{all, settingsFit, errorsFit, bothEmpty, queuesFit, progressFits, physicalFits, runningFits, valid}
 use Rattle.model.specs.declared.Phase.{Phase}
 use Rattle.model.specs.declared.Errors.{Errors}
 use Rattle.model.specs.declared.Queue.{Queue}
 use Rattle.model.specs.declared.Queues.{Queues}
 use Rattle.model.specs.declared.Progress.{Progress}
-use Rattle.model.specs.declared.Operation.{Operation}
-use Rattle.model.specs.declared.Setup.{Setup}
 use Rattle.model.specs.declared.Controller.{Controller}
 use Rattle.model.proofs.Bool.{and-left, and-right}
-use Rattle.model.proofs.Answers.{asked-in-range}
 
 -- ---- a valid state, part by part
 
@@ -84,21 +77,3 @@ tested-more {l = l} {i = i} x one h t e =
 
 pub tested-all : {A : Type 0} {test : A → Bool} {l : List A} {i : ℕ} {ok : Bool} → length l ≤ i → Tested test l i ok → ok ≡ all test l
 tested-all {l = l} {ok = ok} h t = sym (and-true ok) ∙ (rw (drop-of-length-le l h) at (t .so-far))
-
--- ---- the readable words of a read
-
--- Of a read whose checks accept it or deny it, the answer alone says how many words are readable.
-pub readable-by-answer : (s : Setup) (o : Operation) → (accepts (operationAnswer s o) || isDenied (operationAnswer s o)) ≡ true
-    → readableWords s o ≡ cond (isDenied (operationAnswer s o)) 0 (o .count)
-unfolding readableWords
-readable-by-answer s o h = rw (asked-in-range s o h .2)
-
--- So a test of them may go by the answer.
-by-passing : (p : Bool) {x y : Bool} → (p ≡ true → x ≡ y) → (p && x) ≡ (p && y)
-by-passing true e = e refl
-by-passing false e = refl
-
-pub readable-test : (s : Setup) (o : Operation) (readable : ℕ) (e : Bool)
-    → ((accepts (operationAnswer s o) || isDenied (operationAnswer s o)) && (eqb readable (cond (isDenied (operationAnswer s o)) 0 (o .count)) && e))
-    ≡ ((accepts (operationAnswer s o) || isDenied (operationAnswer s o)) && (eqb readable (readableWords s o) && e))
-readable-test s o readable e = by-passing (accepts (operationAnswer s o) || isDenied (operationAnswer s o)) (λ h. rw (readable-by-answer s o h))

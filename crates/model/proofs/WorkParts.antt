@@ -36,7 +36,7 @@ askedFits s (Read o k r) = accepts (operationAnswer s o) || isDenied (operationA
 askedFits s (Program o k) = accepts (operationAnswer s o)
 askedFits s (Erase o k) = accepts (operationAnswer s o)
 
--- a read is blank if it is denied;
+-- a read has exactly its true words readable;
 abbrev pub readableFits : Setup → Work → Bool
 readableFits s (Read o k r) = eqb r (readableWords s o)
 readableFits s (Program o k) = true

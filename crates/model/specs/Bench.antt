@@ -1,16 +1,19 @@
--- The starred cases of the bench sheet (01, 'Bench sheet') and those of who denies (02, L2), each put to the definition of a call.
+-- The starred cases of the bench sheet (01, 'Bench sheet') and those of denied operations (02, L2 and L3), each put to the
+-- definition of a call.
 use Prim.Native.Nat.{ℕ, zero, suc}
 use mathlib.Core.Bool.{Bool, true, false, _&&_}
 use mathlib.Core.List.{List, [], _∷_}
 use lib.Dec.{eqb}
-use lib.ListN.{replicate}
+use lib.ListN.{getD, replicate}
 use Rattle.model.specs.Geometry.{infoCount, byteAddress, firstWord, dataImagePage, specialPage, creatorPage}
 use Rattle.model.specs.Words.{allOnes}
 use Rattle.model.specs.State.{Flash, flash, Leaves, stored, resetController}
+use Rattle.model.specs.Rights.{readableWords}
 use Rattle.model.specs.Refusals.{numberOf, reported}
 use Rattle.model.specs.Settings.{setInputs, setRegion, setDefault, setInfo, setErase}
 use Rattle.model.specs.Lifecycle.{reset, initialise}
 use Rattle.model.specs.Steps.{start, push, step}
+use Rattle.model.specs.Whole.{whole}
 use Rattle.model.specs.declared.Region.{Region}
 use Rattle.model.specs.declared.Operation.{Operation}
 use Rattle.model.specs.declared.Controller.{Controller}
@@ -86,6 +89,12 @@ pub data Case : Type 0 where
   asks : Controller → Operation → ℕ → Case
   -- start of an operation answers this number, and reports this one
   reports : Controller → Operation → ℕ → ℕ → Case
+  -- start of an operation answers this number, and records this address
+  records : Controller → Operation → ℕ → ℕ → Case
+  -- start of a read answers 9, has so many true words, and records this address
+  cuts : Controller → Operation → ℕ → ℕ → Case
+  -- a whole read of an image of zeros delivers this as its word k
+  delivers : Controller → Operation → ℕ → ℕ → Case
   -- a step leaves this word at place 0, and changes so many bits
   leaves : Leaves Stepped → ℕ → ℕ → Case
   -- two numbers are equal
@@ -96,6 +105,14 @@ holds (resets d n) = eqb (numberOf (reset bench d .answer)) n
 holds (initialises d words n) = eqb (numberOf (initialise (reset bench d .controller) (blank words) .answer)) n
 holds (asks c o n) = eqb (numberOf (start c o .answer)) n
 holds (reports c o n by) = eqb (numberOf (start c o .answer)) n && eqb (reported (start c o .answer)) by
+holds (records c o n address) =
+    eqb (numberOf (start c o .answer)) n && eqb (start c o .controller .errors .address .0) address
+holds (cuts c o readable address) =
+    eqb (numberOf (start c o .answer)) 9
+    && (eqb (readableWords (c .setup) o) readable
+    && eqb (start c o .controller .errors .address .0) address)
+holds (delivers c o k word) =
+    eqb (getD (whole c (flash (replicate 14848 0)) o (replicate (o .count) 7) .buffer) k 7) word
 holds (leaves s word bits) =
     eqb (numberOf (s .result .answer)) 0
     && (eqb (stored (s .flash) (record { 0 = 0 })) word
@@ -187,4 +204,38 @@ denials =
     -- Nobody is named where the operation is accepted, or refused otherwise.
     ∷ reports heldTwice (op 1 0 0 0x0800 1) 0 255
     ∷ reports nothingGiven (op 1 0 0 0 17) 8 255
+    ∷ []
+
+-- ---- denied reads: true up to the first denied page (02, L3)
+
+-- Page 16, the first of bank 1, is held by region 0, which gives nothing.
+unfoldable pub secondBankClosed : Controller
+secondBankClosed = setRegion bench 0 (region true 16 1 0) .controller
+
+unfoldable pub cutReads : List Case
+cutReads =
+    -- Pages 1 and 2 are denied, pages 0 and 3 are not.
+    cuts heldTwice (op 0 0 0 0 1024) 256 0x0400
+    ∷ cuts heldTwice (op 0 0 0 0x03FC 2) 1 0x0400
+    ∷ cuts heldTwice (op 0 0 0 0x0BFC 257) 0 0x0BFC
+    -- What it delivers: the true word, then ones, and ones also from an allowed page that comes after a denied one.
+    ∷ delivers heldTwice (op 0 0 0 0x03FC 2) 0 0
+    ∷ delivers heldTwice (op 0 0 0 0x03FC 2) 1 allOnes
+    ∷ delivers heldTwice (op 0 0 0 0x0BFC 2) 1 allOnes
+    ∷ delivers heldTwice (op 0 0 0 0x0C00 1) 0 0
+    -- The first page is denied: the address is the operation's own.
+    ∷ cuts heldTwice (op 0 0 0 0x0404 1) 0 0x0404
+    ∷ cuts nothingGiven (op 0 0 0 0x0008 1024) 0 0x0008
+    -- Over the border of the banks.
+    ∷ cuts secondBankClosed (op 0 0 0 0x3FF8 4) 2 0x4000
+    ∷ cuts secondBankClosed (op 0 0 0 0x3800 768) 512 0x4000
+    -- Information pages, by the seed lock and by their setting.
+    ∷ cuts seedsLocked (op 0 1 0 0x03F0 16) 4 0x0400
+    ∷ cuts seedsLocked (op 0 1 0 0 768) 256 0x0400
+    ∷ cuts (firstOff seedsLocked) (op 0 1 0 0 768) 0 0
+    -- A denied program or erase records its own address, and so does a read that is out of range.
+    ∷ records heldTwice (op 1 0 0 0x0404 1) 9 0x0404
+    ∷ records heldTwice (op 2 0 0 0x0BFC 0) 9 0x0BFC
+    ∷ records nothingGiven (op 3 0 0 0x7FFC 0) 9 0x7FFC
+    ∷ records heldTwice (op 0 0 0 0x7FFC 2) 7 0x7FFC
     ∷ []

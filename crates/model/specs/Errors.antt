@@ -1,13 +1,16 @@
--- The error record, and the call that clears it. (01, 'When the desk says no')
+-- The error record, and the call that clears it. (01, 'When the desk says no'; 02, L3)
 use Prim.Native.Nat.{ℕ}
 use mathlib.Core.Bool.{Bool, _||_, not, cond}
 use lib.Dec.{eqb}
+use Rattle.model.specs.Places.{spanAddress}
 use Rattle.model.specs.State.{withErrors, noErrors}
-use Rattle.model.specs.Refusals.{check, settle}
+use Rattle.model.specs.Rights.{readableWords}
+use Rattle.model.specs.Refusals.{isDeniedRead, check, settle}
 use Rattle.model.specs.Valid.{valid}
 use Rattle.model.specs.declared.ByteAddress.{ByteAddress}
 use Rattle.model.specs.declared.Errors.{Errors}
 use Rattle.model.specs.declared.Operation.{Operation}
+use Rattle.model.specs.declared.Setup.{Setup}
 use Rattle.model.specs.declared.Controller.{Controller}
 use Rattle.model.specs.declared.Outcome.{Outcome}
 use Rattle.model.specs.declared.Answer.the-variants.{Invalid}
@@ -30,9 +33,13 @@ joined n a e = record {
 unfoldable pub recorded : ℕ → ByteAddress → Errors → Errors
 recorded n a e = cond (isRecorded n) (joined n a e) e
 
+-- The address that an operation's refusal records is its own; of a denied read it is 'that of the first denied word'. (02, L3)
+unfoldable pub errorAddress : Setup → ℕ → Operation → ByteAddress
+errorAddress s n o = cond (isDeniedRead o n) (spanAddress o (readableWords s o)) (o .address)
+
 -- The controller after an operation's answer, before anything starts.
 abbrev pub withRecorded : Controller → ℕ → Operation → Controller
-withRecorded c n o = withErrors c (recorded n (o .address) (c .errors))
+withRecorded c n o = withErrors c (recorded n (errorAddress (c .setup) n o) (c .errors))
 
 -- Clearing checks 1 only. It leaves no kinds and a last address of 0.
 unfoldable pub clear : Controller → Outcome

@@ -1,7 +1,9 @@
 -- The refusals by number and what they report, and chains of checks. (01, 'When the desk says no'; 02, L2)
 use Prim.Native.Nat.{ℕ}
-use mathlib.Core.Bool.{Bool, not, cond}
+use mathlib.Core.Bool.{Bool, _&&_, not, cond}
 use lib.Dec.{eqb}
+use Rattle.model.specs.Kinds.{isRead}
+use Rattle.model.specs.declared.Operation.{Operation}
 use Rattle.model.specs.declared.Answer.{Answer}
 use Rattle.model.specs.declared.Answer.the-variants.{Accepted, Invalid, Disabled, Uninitialised, Busy, Malformed, ShortBuffer, OutOfRange, CrossesWindow, Denied, QueueEmpty, QueueFull, Unexpected, BadSetting}
 use Rattle.model.specs.declared.Decider.{Decider}
@@ -61,6 +63,10 @@ accepts a = eqb (numberOf a) 0
 
 abbrev pub isDenied : Answer → Bool
 isDenied a = eqb (numberOf a) 9
+
+-- A denied read, by its answer's number: it is refused and still starts. (01, 9)
+abbrev pub isDeniedRead : Operation → ℕ → Bool
+isDeniedRead o n = isRead o && eqb n 9
 
 -- A check: the refusal if its test holds.
 abbrev pub check : Bool → Answer → Answer

@@ -1,5 +1,5 @@
 -- Who may touch which page: the look-up of rights, the seed pages, and the one check over a span of pages.
--- (01, 'Who may touch which page'; 02, L2)
+-- (01, 'Who may touch which page'; 02, L2 and L3)
 use Prim.Native.Nat.{ℕ, zero, suc, _+_, _-_, _*_, _/_, _%_, min}
 use mathlib.Core.Bool.{Bool, false, _&&_, _||_, not, cond}
 use mathlib.Core.List.{List, [], _∷_}
@@ -109,6 +109,7 @@ unfoldable pub deciderOf : Setup → Operation → Decider
 deciderOf s o =
     cond (isBankErase o) by.BankPermission (rulingAt s (isInformation o) (o .info) (firstDenied s o) .decider)
 
--- How many words of a read are the stored ones: all, or none if one of its pages denies it (01: the whole read is blank).
+-- How many words of a read are the true ones: 'words before the first denied page are the true ones, and that page's words and
+-- all later ones are ones, even on allowed pages.' (02, L3)
 unfoldable pub readableWords : Setup → Operation → ℕ
-readableWords s o = cond (denied s o) 0 (o .count)
+readableWords s o = allowedWords s o

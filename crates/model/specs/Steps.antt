@@ -1,6 +1,6 @@
--- Start, push, pop and step. (01, 'Steps' and 'When the desk says no')
+-- Start, push, pop and step. (01, 'Steps' and 'When the desk says no'; 02, L3)
 use Prim.Native.Nat.{ℕ, _+_}
-use mathlib.Core.Bool.{Bool, false, _&&_, _||_, not, cond}
+use mathlib.Core.Bool.{Bool, false, _||_, not, cond}
 use lib.Dec.{ltb, leb, eqb}
 use Rattle.model.specs.Words.{allOnes, programmed, changedBits}
 use Rattle.model.specs.Kinds.{isRead, isProgram}
@@ -8,7 +8,7 @@ use Rattle.model.specs.Places.{totalWords, placeOf}
 use Rattle.model.specs.Queue.{isEmpty, isFull, pushed, oldest, popped}
 use Rattle.model.specs.State.{Flash, Leaves, stored, withWord, withQueues, withProgress, withReads, withPrograms, isBusy}
 use Rattle.model.specs.Rights.{readableWords}
-use Rattle.model.specs.Refusals.{numberOf, accepts, isDenied, check, orElse, readyAnswer, refused, settle}
+use Rattle.model.specs.Refusals.{numberOf, accepts, isDeniedRead, check, orElse, readyAnswer, refused, settle}
 use Rattle.model.specs.Checks.{operationAnswer}
 use Rattle.model.specs.Valid.{valid, validWith}
 use Rattle.model.specs.Errors.{withRecorded}
@@ -38,9 +38,9 @@ startAnswer c = orElse (readyAnswer (valid c) (c .phase)) (check (isBusy (c .pro
 abbrev pub workOf : Setup → Operation → Work
 workOf s o = cond (isRead o) (Read o 0 (readableWords s o)) (cond (isProgram o) (Program o 0) (Erase o 0))
 
--- An accepted operation starts, and so does a denied read (01: blank).
+-- An accepted operation starts, and so does a denied read.
 abbrev pub starts : Operation → Answer → Bool
-starts o a = accepts a || (isRead o && isDenied a)
+starts o a = accepts a || isDeniedRead o (numberOf a)
 
 abbrev pub progressAfter : Controller → Operation → Answer → Progress
 progressAfter c o a = cond (starts o a) (Running (workOf (c .setup) o)) (c .progress)
@@ -92,9 +92,13 @@ stalls q (Read o moved readable) = isFull (q .reads)
 stalls q (Program o moved) = isEmpty (q .programs)
 stalls q (Erase o moved) = false
 
--- What a read delivers at a place: the stored word.
+-- The true word at a place: the stored one.
 unfoldable pub delivered : Flash → BusWord → ℕ
 delivered f p = stored f p
+
+-- What a read delivers as its word k, whose place is p: the true word if it is one of the first `readable`, else ones.
+unfoldable pub readWord : Flash → ℕ → ℕ → BusWord → ℕ
+readWord f readable k p = cond (ltb k readable) (delivered f p) allOnes
 
 -- The bits that count as changed at a place.
 unfoldable pub countedBits : Setup → BusWord → ℕ → ℕ → ℕ
@@ -124,15 +128,14 @@ stores c n k q next p new f = record {
 }
 
 -- One word moves, at the operation's next place.
---   Read: the next word goes to the read queue, ones where it is blank.
+--   Read: the next word goes to the read queue.
 --   Program: the oldest queued word is combined with the stored one.
 --   Erase: the word becomes all ones.
 unfoldable pub advance : Controller → Flash → Work → Leaves Stepped
 advance c f (Read o k readable) = record {
   result =
       moved c (totalWords (c .setup .pages) o) k
-      (withReads (c .queues)
-      (pushed (c .queues .reads) (cond (ltb k readable) (delivered f (placeOf (c .setup .pages) o k)) allOnes)))
+      (withReads (c .queues) (pushed (c .queues .reads) (readWord f readable k (placeOf (c .setup .pages) o k))))
       (Read o (k + 1) readable) 0;
   flash = f;
 }

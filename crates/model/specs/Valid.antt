@@ -1,4 +1,4 @@
--- When a state is valid (01: 'a state is ours'), and check 1. (01, 'When the desk says no')
+-- When a state is valid (01: 'a state is ours'), and check 1. (01, 'When the desk says no'; 02, L1 and L3)
 use Prim.Native.Nat.{ℕ, _+_}
 use mathlib.Core.Bool.{Bool, true, _&&_, _||_, not}
 use mathlib.Core.List.{List, [], _∷_}
@@ -68,7 +68,8 @@ queuesFit ready q =
 abbrev pub progressFits : Bool → Progress → Bool
 progressFits ready p = ready || not (isBusy p)
 
--- It has words left to move, and passes 5, 7, 8 and 9, save that a denied read is there as blank and no other read is.
+-- It has words left to move, and passes 5, 7, 8 and 9, save that a denied read is there too. A read is there with exactly the
+-- number of its true words. (02, L3)
 -- The program queue holds the words pushed and not yet moved, at most n pushed in all, and is empty with no program in
 -- progress.
 unfoldable pub workFits : Setup → Queue → Work → Bool

@@ -2,7 +2,7 @@
 use Prim.Native.Nat.{ℕ, zero, suc, _+_, _/_, _%_}
 use lib.Bits.{bitAnd, differ}
 
--- A word of ones: what an erased word holds, and what a blank read delivers.
+-- A word of ones: what an erased word holds, and what a read delivers from its first denied page on.
 abbrev pub allOnes : ℕ
 allOnes = 0xFFFFFFFF
 

@@ -126,7 +126,7 @@ pub struct Operation {
 }
 
 // An operation that was started, and how many of its words have moved. Of a read, the first `readable` words are
-// the stored ones and the others are ones; a blank read has none.
+// the true ones, those before its first denied page, and the others are ones.
 pub enum Work {
     Read {
         op: Operation,

@@ -1,5 +1,5 @@
 -- What a start leaves, by the tests that it makes. Assumes nothing.
-use Prim.Native.Nat.{ℕ}
+use Prim.Native.Nat.{ℕ, _≤_}
 use mathlib.Core.Path.{_≡_, refl, ap, sym, subst, _∙_}
 use mathlib.Core.Bool.{Bool, true, false, cond}
 use mathlib.Core.List.{List}
@@ -7,8 +7,9 @@ use lib.ListN.{getD}
 use Rattle.model.specs.Kinds.{isRead, isProgram}
 use Rattle.model.specs.State.{isBusy}
 use Rattle.model.specs.Valid.{valid}
-use Rattle.model.specs.Refusals.{accepts, isDenied, readyAnswer, numberOf, check, orElse}
-use Rattle.model.specs.Errors.{isRecorded, recorded}
+use Rattle.model.specs.Refusals.{accepts, readyAnswer, numberOf, check, orElse}
+use Rattle.model.specs.Rights.{readableWords}
+use Rattle.model.specs.Errors.{isRecorded, recorded, errorAddress}
 use Rattle.model.specs.Checks.{operationAnswer}
 use Rattle.model.specs.Steps.{startAnswer, starts, progressAfter, started}
 use Rattle.model.specs.declared.Answer.{Answer}
@@ -21,7 +22,8 @@ use Rattle.model.specs.declared.Controller.{Controller}
 use Rattle.model.proofs.Bool.{by-test}
 use Rattle.model.proofs.Answers.{both-accept, check-passed, unrecorded, recorded-if-refused}
 use Rattle.model.proofs.StepLaws.{start-goes-on, start-stops}
-use Rattle.model.proofs.Accepting.{ready-valid, starts-readable}
+use Rattle.model.proofs.Order.{pages-bound}
+use Rattle.model.proofs.Accepting.{ready-valid}
 use Rattle.registers.specs.Layout.{runningAt}
 use Rattle.registers.specs.Registers.{decode, standsFor, isOn, workAt, progressAt, errorsAt, putRunning, putProgress, putErrors, put}
 use Rattle.registers.proofs.Kept.{valid-encoded, itself, parts, progress-kept}
@@ -53,20 +55,20 @@ module _ {s : List ℕ} {o : Operation} {a : Answer} (b : Begins s o a) where
   off = sym (busy (isOn (getD s runningAt 0)) (workAt s)) ∙ b .idle
 
   pub begin-starts : starts o a ≡ true
-      → putRunning s o 0 (cond (isRead o) (cond (isDenied a) 0 (o .count)) 0) ≡ putProgress s (progressAfter (standsFor s) o a)
+      → putRunning s o 0 (cond (isRead o) (readableWords (standsFor s .setup) o) 0) ≡ putProgress s (progressAfter (standsFor s) o a)
   begin-starts t =
       by-test (isRead o)
-      (λ r. rw (t, r, starts-readable (standsFor s .setup) o (b .answered) t))
+      (λ r. rw (t, r))
       (λ r. by-test (isProgram o) (λ p. rw (t, r, p, off)) (λ p. rw (t, r, p, off)))
 
   pub begin-stays : starts o a ≡ false → s ≡ putProgress s (progressAfter (standsFor s) o a)
   unfolding standsFor
   begin-stays t = rw t (sym (progress-kept itself (parts s (b .encodes) .progress)))
 
-  pub begin-records : putErrors (putProgress s (progressAfter (standsFor s) o a)) (recorded (numberOf a) (o .address) (errorsAt s))
+  pub begin-records : putErrors (putProgress s (progressAfter (standsFor s) o a)) (recorded (numberOf a) (errorAddress (standsFor s .setup) (numberOf a) o) (errorsAt s))
       ≡ put s (started (standsFor s) o a .controller)
   unfolding standsFor
-  begin-records = sym (put-starting s (b .encodes) (recorded (numberOf a) (o .address) (errorsAt s)) (progressAfter (standsFor s) o a))
+  begin-records = sym (put-starting s (b .encodes) _ (progressAfter (standsFor s) o a))
 
 -- ---- the call
 
@@ -107,7 +109,7 @@ module _ (s : List ℕ) (o : Operation) (first : Answer) (asked : first ≡ star
       start-begins = record {
         encodes = valid-encoded s fits;
         idle = subst (λ (c : Controller). isBusy (c .progress) ≡ false) same idle;
-        answered = answered;
+        answered = record { answered = answered; pages = subst (λ (c : Controller). (10 ≤ c .setup .pages) × (c .setup .pages ≤ 256)) same (pages-bound (decode s) fits) };
       }
 
       pub start-goes : record { told = toldAnswer a; registers = put s (started (standsFor s) o a .controller) } ≡ startIn s o

@@ -1,8 +1,8 @@
 // Start on registers: an operation begins.
 ghost use mathlib.Core.Path.{_≡_};
-ghost use mathlib.Core.Bool.{cond};
+ghost use mathlib.Core.Bool.{true, cond};
 ghost use Rattle.model.specs.Kinds.{isRead};
-ghost use Rattle.model.specs.Refusals.{isDenied};
+ghost use Rattle.model.specs.Rights.{readableWords};
 ghost use Rattle.model.specs.Steps.{startAnswer, starts, progressAfter, started};
 ghost use Rattle.registers.specs.Registers.{decode, standsFor, putProgress, put};
 ghost use Rattle.calls.specs.Calls.{startIn};
@@ -27,18 +27,18 @@ fn start_answer(s: &Registers) -> Answer
 fn starts(o: Operation, answer: Answer) -> bool
     ensures { λ r. ⌜ r ≡ starts o answer ⌝ }
 {
-    let read = places::is_read(o);
     let accepted = refusals::accepts(answer);
-    let denied = refusals::is_denied(answer);
-    accepted | (read & denied)
+    let denied = lookups::is_denied_read(o, answer);
+    accepted | denied
 }
 
 // How many words of what starts are readable; 0 unless it reads.
-fn readable(o: Operation, answer: Answer) -> u32
-    ensures { λ r. ⌜ r ≡ cond (isRead o) (cond (isDenied answer) 0 (o .count)) 0 ⌝ }
+fn readable(s: &Registers, o: Operation, answer: Answer) -> u32
+    requires { ⌜ Begins (now s) o answer × (starts o answer ≡ true) ⌝ }
+    ensures { λ r. ⌜ r ≡ cond (isRead o) (readableWords (standsFor (now (s .entry)) .setup) o) 0 ⌝ }
 {
     if places::is_read(o) {
-        return lookups::readable_by(answer, o);
+        return lookups::readable(s, o, answer);
     }
     0
 }
@@ -49,7 +49,8 @@ fn begin(s: &mut Registers, o: Operation, answer: Answer)
     ensures { λ _. ⌜ now (s .exit) ≡ putProgress (now (s .entry)) (progressAfter (standsFor (now (s .entry))) o answer) ⌝ }
 {
     if starts(o, answer) {
-        registers::put_running(s, o, readable(o, answer));
+        let words = readable(s, o, answer);
+        registers::put_running(s, o, words);
     }
 }
 
@@ -58,8 +59,7 @@ fn started(s: &mut Registers, o: Operation, answer: Answer)
     requires { ⌜ Begins (now s) o answer ⌝ }
     ensures { λ _. ⌜ now (s .exit) ≡ put (now (s .entry)) (started (standsFor (now (s .entry))) o answer .controller) ⌝ }
 {
-    let address = o.address;
-    let errors = refusals::recorded(answer, address, registers::errors(s));
+    let errors = lookups::recorded(s, o, answer);
     begin(s, o, answer);
     registers::put_errors(s, errors);
 }

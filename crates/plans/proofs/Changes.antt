@@ -1,22 +1,25 @@
 -- What of the flash decides a whole operation's answer, and what it changes there. Assumes nothing.
 use Prim.Native.Nat.{ℕ}
 use mathlib.Core.Path.{_≡_, refl, sym, _∙_}
-use mathlib.Core.Bool.{true, false, _&&_, _||_}
+use mathlib.Core.Bool.{true, false, _||_}
 use mathlib.Core.List.{List}
 use Rattle.model.specs.Kinds.{isRead, isProgram, isPageErase, isBankErase}
 use Rattle.model.specs.Places.{totalWords}
 use Rattle.model.specs.State.{Flash}
-use Rattle.model.specs.Refusals.{accepts, isDenied}
+use Rattle.model.specs.Rights.{readableWords}
+use Rattle.model.specs.Refusals.{accepts}
 use Rattle.model.specs.Checks.{operationAnswer}
 use Rattle.model.specs.Valid.{validWith}
+use Rattle.model.specs.Steps.{starts}
 use Rattle.model.specs.Whole.{wholeAnswer, shortBuffer, whole}
 use Rattle.model.specs.declared.Operation.{Operation}
 use Rattle.model.specs.declared.Work.the-variants.{Erase}
 use Rattle.model.specs.declared.Controller.{Controller}
-use Rattle.model.specs.declared.Answer.the-variants.{ShortBuffer}
 use Rattle.model.proofs.Bool.{by-test}
+use Rattle.model.proofs.DeniedReads.{others-accepted}
 use Rattle.model.proofs.WorkParts.{work-parts}
-use Rattle.plans.specs.Plan.{Plan, Refused, Recorded, Blank, Reads, Programs, Erases, placesOf, planOf, programming, erasing, performed}
+use Rattle.plans.specs.Plan.{Plan, Refused, Recorded, Reads, Programs, Erases, placesOf, planStarted, planOf, programming, erasing, performed}
+use Rattle.plans.proofs.Cases.{PlanCase, refuses, records, begins, plan-case}
 use Rattle.plans.proofs.Firsts.{storedFirst, stored-firsts}
 use Rattle.plans.proofs.Wholes.{erase-begun}
 use Rattle.plans.proofs.ClosedFormProof.{closed-form}
@@ -28,8 +31,7 @@ plan-answers : (c : Controller) (f g : Flash) (o : Operation) (b : List ℕ) (p 
 unfolding performed
 plan-answers c f g o b (Refused a) = refl
 plan-answers c f g o b (Recorded a) = refl
-plan-answers c f g o b (Blank a n) = refl
-plan-answers c f g o b (Reads ps) = refl
+plan-answers c f g o b (Reads a readable ps) = refl
 plan-answers c f g o b (Programs ps) = refl
 plan-answers c f g o b (Erases ps) = refl
 
@@ -54,30 +56,28 @@ module _ (c : Controller) (f : Flash) (o : Operation) (b : List ℕ) where
   by-plan : (p : Plan) → planOf c f o b ≡ p → whole c f o b .flash ≡ performed c f o b p .flash
   by-plan p e = rw (closed-form c f o b, e)
 
-  module _ (free : accepts (wholeAnswer c f) ≡ true) (room : shortBuffer o b ≡ false) (ok : accepts (operationAnswer (c .setup) o) ≡ true) where
+  module _ (free : accepts (wholeAnswer c f) ≡ true) (room : shortBuffer o b ≡ false) (s : starts o (operationAnswer (c .setup) o) ≡ true)
+      (e : planOf c f o b ≡ planStarted (c .setup) o (operationAnswer (c .setup) o)) where
     started-changes : WholeChanges c f o b
-    unfolding planOf performed placesOf
+    unfolding performed placesOf
     started-changes =
-        by-test (isRead o) (λ r. same (by-plan (Reads (placesOf (c .setup .pages) o)) (rw (free, room, ok, r))))
+        by-test (isRead o)
+        (λ r. same (by-plan (Reads (operationAnswer (c .setup) o) (readableWords (c .setup) o) (placesOf (c .setup .pages) o)) (e ∙ rw r)))
         (λ r.
+        let ok : accepts (operationAnswer (c .setup) o) ≡ true = others-accepted (c .setup) o r s in
         by-test (isProgram o)
         (λ p.
         programs ok p
-        (by-plan (Programs (placesOf (c .setup .pages) o)) (rw (free, room, ok, r, p)) ∙ sym (stored-firsts o (programming b) f (c .setup .pages) _)))
+        (by-plan (Programs (placesOf (c .setup .pages) o)) (e ∙ rw (r, p)) ∙ sym (stored-firsts o (programming b) f (c .setup .pages) _)))
         (λ p.
-        erases ok (work-parts _ _ (Erase o 0) (erase-begun c f o b free room (rw ok) r p .work) .kind)
-        (by-plan (Erases (placesOf (c .setup .pages) o)) (rw (free, room, ok, r, p)) ∙ sym (stored-firsts o erasing f (c .setup .pages) _))))
+        erases ok (work-parts _ _ (Erase o 0) (erase-begun c f o b free room s r p .work) .kind)
+        (by-plan (Erases (placesOf (c .setup .pages) o)) (e ∙ rw (r, p)) ∙ sym (stored-firsts o erasing f (c .setup .pages) _))))
+
+  case-changes : PlanCase c f o b → WholeChanges c f o b
+  unfolding performed
+  case-changes (refuses a n u e) = same (by-plan (Refused a) e)
+  case-changes (records n e) = same (by-plan (Recorded (operationAnswer (c .setup) o)) e)
+  case-changes (begins free room s e) = started-changes free room s e
 
   pub whole-changes : WholeChanges c f o b
-  unfolding planOf performed
-  whole-changes =
-      by-test (accepts (wholeAnswer c f))
-      (λ a.
-      by-test (shortBuffer o b) (λ s. same (by-plan (Refused ShortBuffer) (rw (a, s))))
-      (λ s.
-      by-test (accepts (operationAnswer (c .setup) o)) (started-changes a s)
-      (λ n.
-      by-test (isRead o && isDenied (operationAnswer (c .setup) o))
-      (λ d. same (by-plan (Blank (operationAnswer (c .setup) o) (o .count)) (rw (a, s, n, d))))
-      (λ d. same (by-plan (Recorded (operationAnswer (c .setup) o)) (rw (a, s, n, d)))))))
-      (λ a. same (by-plan (Refused (wholeAnswer c f)) (rw a)))
+  whole-changes = case-changes (plan-case c f o b)

@@ -1,29 +1,23 @@
 -- A whole operation leaves what its plan does. Assumes nothing.
 use Prim.Native.Nat.{ℕ}
-use native.Mathlib.Omega.{arith}
-use mathlib.Core.Path.{_≡_, sym, _∙_}
-use mathlib.Core.Bool.{true, false, _&&_, _||_, or-true}
+use mathlib.Core.Path.{_≡_, _∙_}
+use mathlib.Core.Bool.{true, false}
 use mathlib.Core.List.{List}
 use mathlib.Core.Logic.{⊎-elim}
-use borrow.Author.Tests.{eqb-true}
 use Rattle.model.specs.Kinds.{isRead, isProgram}
-use Rattle.model.specs.Places.{totalWords}
 use Rattle.model.specs.State.{Flash}
 use Rattle.model.specs.Rights.{readableWords}
-use Rattle.model.specs.Refusals.{numberOf, accepts, isDenied}
+use Rattle.model.specs.Refusals.{accepts}
 use Rattle.model.specs.Checks.{operationAnswer}
 use Rattle.model.specs.Errors.{recorded}
 use Rattle.model.specs.Steps.{starts}
 use Rattle.model.specs.Whole.{wholeAnswer, shortBuffer, whole}
 use Rattle.model.specs.declared.Operation.{Operation}
 use Rattle.model.specs.declared.Controller.{Controller}
-use Rattle.model.specs.declared.Answer.the-variants.{Accepted}
-use Rattle.model.proofs.Bool.{which, and-left, and-right}
-use Rattle.model.proofs.Places.{moving-words}
-use Rattle.model.proofs.Answers.{answer-named}
-use Rattle.model.proofs.Valid.{readable-by-answer}
-use Rattle.plans.specs.Plan.{ClosedForm, Plan, Blank, Reads, Programs, Erases, placesOf, planAnswered, planOf, programming, erasing, performed}
-use Rattle.plans.proofs.Firsts.{places-length, read-all, read-blank, stored-firsts, changed-firsts}
+use Rattle.model.proofs.Bool.{which, by-test}
+use Rattle.model.proofs.DeniedReads.{others-told}
+use Rattle.plans.specs.Plan.{ClosedForm, Plan, Reads, Programs, Erases, placesOf, planAnswered, planOf, programming, erasing, performed}
+use Rattle.plans.proofs.Firsts.{places-length, read-all, stored-firsts, changed-firsts}
 use Rattle.plans.proofs.Wholes.{whole-read, whole-program, whole-erase, whole-recorded}
 
 module _ (c : Controller) (f : Flash) (o : Operation) (b : List ℕ) (free : accepts (wholeAnswer c f) ≡ true)
@@ -32,68 +26,38 @@ module _ (c : Controller) (f : Flash) (o : Operation) (b : List ℕ) (free : acc
   Performs : Plan → Type 0
   Performs p = whole c f o b ≡ performed c f o b p
 
-  -- ---- accepted
+  -- ---- an operation that starts
 
-  module _ (ok : accepts (operationAnswer (c .setup) o) ≡ true) where
-    -- Then it starts,
-    begins : starts o (operationAnswer (c .setup) o) ≡ true
-    begins = rw ok
+  module _ (s : starts o (operationAnswer (c .setup) o) ≡ true) where
+    -- A read, accepted or denied, delivers its words,
+    read : isRead o ≡ true → Performs (Reads (operationAnswer (c .setup) o) (readableWords (c .setup) o) (placesOf (c .setup .pages) o))
+    unfolding Performs performed placesOf
+    read r = whole-read c f o b free room s r ∙ rw (read-all, places-length)
 
-    -- it is not denied,
-    undenied : isDenied (operationAnswer (c .setup) o) ≡ false
-    undenied = rw (eqb-true (numberOf (operationAnswer (c .setup) o)) 0 ok)
-
-    -- and the answer says so.
-    accepted : operationAnswer (c .setup) o ≡ Accepted
-    accepted = answer-named (c .setup) o (rw ok) ∙ rw undenied
-
-    -- A read delivers the words at its places,
-    read : isRead o ≡ true → Performs (Reads (placesOf (c .setup .pages) o))
-    unfolding Performs performed placesOf recorded
-    read r =
-        let n = moving-words (c .setup .pages) o (omega (arith, eqb-true (o .kind) 0 r)) in
-        let all : readableWords (c .setup) o ≡ totalWords (c .setup .pages) o = readable-by-answer (c .setup) o (rw ok) ∙ rw undenied (sym n) in
-        whole-read c f o b free room begins r
-        ∙ rw (all, read-all f (c .setup .pages) o (totalWords (c .setup .pages) o) (totalWords (c .setup .pages) o) (omega arith), accepted, places-length)
-
-    -- a program stores the buffer's words at them,
+    -- a program, which is accepted, stores the buffer's words at its places,
     program : isRead o ≡ false → isProgram o ≡ true → Performs (Programs (placesOf (c .setup .pages) o))
     unfolding Performs performed placesOf recorded
     program r p =
-        whole-program c f o b free room begins r p
-        ∙ rw (stored-firsts o (programming b) f, changed-firsts o (programming b) f, accepted)
+        whole-program c f o b free room s r p
+        ∙ rw (stored-firsts o (programming b) f, changed-firsts o (programming b) f, others-told (c .setup) o r s)
 
     -- and an erase stores ones.
     erase : isRead o ≡ false → isProgram o ≡ false → Performs (Erases (placesOf (c .setup .pages) o))
     unfolding Performs performed placesOf recorded
     erase r p =
-        whole-erase c f o b free room begins r p ∙ rw (stored-firsts o erasing f, changed-firsts o erasing f, accepted)
+        whole-erase c f o b free room s r p ∙ rw (stored-firsts o erasing f, changed-firsts o erasing f, others-told (c .setup) o r s)
 
-  -- ---- denied, or refused otherwise
+  -- ---- so each answer's plan is performed,
 
-  -- A denied read delivers ones.
-  blank : isRead o ≡ true → isDenied (operationAnswer (c .setup) o) ≡ true → Performs (Blank (operationAnswer (c .setup) o) (o .count))
-  unfolding Performs performed
-  blank r d =
-      let n = moving-words (c .setup .pages) o (omega (arith, eqb-true (o .kind) 0 r)) in
-      let asked : (accepts (operationAnswer (c .setup) o) || isDenied (operationAnswer (c .setup) o)) ≡ true = rw (d, or-true) in
-      let none : readableWords (c .setup) o ≡ 0 = readable-by-answer (c .setup) o asked ∙ rw d in
-      whole-read c f o b free room (rw (r, d, or-true)) r
-      ∙ rw (none, read-blank, n)
-
-  -- So each answer's plan is performed,
-  answered : Performs (planAnswered (c .setup .pages) o (operationAnswer (c .setup) o))
+  answered : Performs (planAnswered (c .setup) o (operationAnswer (c .setup) o))
   unfolding Performs performed
   answered =
-      ⊎-elim (λ ok. rw ok (
-      ⊎-elim (λ r. rw r (read ok r))
-      (λ r. rw r (⊎-elim (λ p. rw p (program ok r p)) (λ p. rw p (erase ok r p)) (which (isProgram o))))
-      (which (isRead o))))
-      (λ e. rw e (
-      ⊎-elim (λ d. rw d (blank (and-left _ _ d) (and-right (isRead o) _ d)))
-      (λ d. rw d (whole-recorded c f o b free room (rw (e, d))))
-      (which (isRead o && isDenied (operationAnswer (c .setup) o)))))
-      (which (accepts (operationAnswer (c .setup) o)))
+      by-test (starts o (operationAnswer (c .setup) o))
+      (λ s.
+      rw s
+      (by-test (isRead o) (λ r. rw r (read s r))
+      (λ r. rw r (by-test (isProgram o) (λ p. rw p (program s r p)) (λ p. rw p (erase s r p))))))
+      (λ e. rw e (whole-recorded c f o b free room e))
 
   -- and it is the operation's plan.
   pub started : whole c f o b ≡ performed c f o b (planOf c f o b)

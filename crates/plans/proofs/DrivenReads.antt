@@ -9,10 +9,10 @@ use mathlib.Core.List.{List, [], _∷_, _++_, append-assoc}
 use lib.ListN.{length, getD, drop, length-append, length-drop}
 use lib.Seq.{drop-cons, append-snoc}
 use borrow.Author.Tests.{eqb-true, eqb-false, leb-false}
-use Rattle.model.specs.Places.{totalWords}
+use Rattle.model.specs.Places.{totalWords, placeOf}
 use Rattle.model.specs.Queue.{queueOf, isEmpty, isFull}
 use Rattle.model.specs.State.{Flash, flashFits, withReads}
-use Rattle.model.specs.Steps.{stalls}
+use Rattle.model.specs.Steps.{stalls, readWord}
 use Rattle.model.specs.declared.Errors.{Errors}
 use Rattle.model.specs.declared.Queue.{Queue}
 use Rattle.model.specs.declared.Operation.{Operation}
@@ -23,7 +23,7 @@ use Rattle.model.proofs.WorkParts.{work-parts}
 use Rattle.plans.specs.Driver.{Driven, stepping, pushing, popping}
 use Rattle.plans.proofs.Holding.{Holds, holds-none, holds-made, pushed-made, popped-made, oldest-first}
 use Rattle.plans.proofs.Running.{stateAt, Begun, Queued, pops}
-use Rattle.plans.proofs.Firsts.{readWord, readFirst}
+use Rattle.plans.proofs.Firsts.{readFirst}
 use Rattle.plans.proofs.Moves.{read-queued, read-moves}
 use Rattle.plans.proofs.Drives.{seen, steps-keep, pushes-same, pops-same}
 
@@ -99,7 +99,7 @@ module _ (c : Controller) (es : Errors) (o : Operation) (f : Flash) (readable : 
     moves : h .k < totalWords (c .setup .pages) o → isFull (h .queue) ≡ false → ReadDriven c es o f readable (stepping r)
     unfolding readSeen readFirst
     moves more e =
-        let v : ℕ = readWord f (c .setup .pages) o readable (h .k) in
+        let v : ℕ = readWord f readable (h .k) (placeOf (c .setup .pages) o (h .k)) in
         let less : length (h .queued) < 16 = omega (arith, h .holds .size, leb-false 16 (h .queue .len) e) in
         record {
           k = suc (h .k);

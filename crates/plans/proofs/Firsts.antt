@@ -1,24 +1,30 @@
 -- What the first words of an operation do, one more at the end; all of them do what the plan's places do.
 -- Assumes nothing.
-use Prim.Native.Nat.{ℕ, zero, suc, _+_, _<_, _≤_}
+use Prim.Native.Nat.{ℕ, zero, suc, _+_, _-_, _<_, _≤_}
 use native.Mathlib.Nat.{add-zero, zero-add, add-assoc}
 use native.Mathlib.Numerals.{add-one}
 use native.Mathlib.Omega.{arith}
 use mathlib.Core.Path.{_≡_, refl, sym, ap, _∙_}
-use mathlib.Core.Bool.{cond}
+use mathlib.Core.Bool.{true}
 use mathlib.Core.List.{List, [], _∷_, _++_, append-nil}
-use lib.Dec.{ltb}
-use lib.ListN.{length, drop, set, replicate, length-append, length-set, replicate-append-replicate}
+use lib.ListN.{length, take, drop, set, replicate, length-append, length-set}
 use lib.Seq.{drop-cons, set-at, append-snoc}
-use borrow.Author.Tests.{lt-ltb, le-ltb}
+use borrow.Author.Tests.{eqb-true, lt-ltb, le-ltb}
 use Rattle.model.specs.Words.{allOnes}
-use Rattle.model.specs.Places.{placeOf}
+use Rattle.model.specs.Kinds.{isRead}
+use Rattle.model.specs.Places.{totalWords, placeOf}
 use Rattle.model.specs.State.{Flash, stored, withWord, flashFits}
-use Rattle.model.specs.Steps.{delivered, countedBits}
+use Rattle.model.specs.Rights.{readableWords}
+use Rattle.model.specs.Refusals.{accepts}
+use Rattle.model.specs.Checks.{operationAnswer}
+use Rattle.model.specs.Steps.{delivered, readWord, countedBits}
+use Rattle.model.specs.declared.BusWord.{BusWord}
 use Rattle.model.specs.declared.Operation.{Operation}
 use Rattle.model.specs.declared.Setup.{Setup}
+use Rattle.model.proofs.Places.{moving-words}
 use Rattle.model.proofs.Flashes.{stored-fits}
-use Rattle.plans.specs.Plan.{placesFrom, deliveredAt, stored-all, changed-all}
+use Rattle.model.proofs.DeniedReads.{readable-le, accepted-readable}
+use Rattle.plans.specs.Plan.{placesFrom, placesOf, truePlaces, deliveredAt, wordsAt, stored-all, changed-all}
 
 -- There are as many places as words.
 pub places-length : (d : ℕ) (o : Operation) (k n : ℕ) → length (placesFrom d o k n) ≡ n
@@ -27,14 +33,10 @@ places-length d o k (suc n) = ap suc (places-length d o (k + 1) n)
 
 -- ---- reads
 
--- Word k of a read with so many readable words.
-abbrev pub readWord : Flash → ℕ → Operation → ℕ → ℕ → ℕ
-readWord f d o readable k = cond (ltb k readable) (delivered f (placeOf d o k)) allOnes
-
 -- The first words of a read, in order.
 unfoldable pub readFirst : Flash → ℕ → Operation → ℕ → ℕ → List ℕ
 readFirst f d o readable zero = []
-readFirst f d o readable (suc k) = readFirst f d o readable k ++ (readWord f d o readable k ∷ [])
+readFirst f d o readable (suc k) = readFirst f d o readable k ++ (readWord f readable k (placeOf d o k) ∷ [])
 
 module _ (f : Flash) (d : ℕ) (o : Operation) (readable : ℕ) where
   -- They are k words.
@@ -43,34 +45,73 @@ module _ (f : Flash) (d : ℕ) (o : Operation) (readable : ℕ) where
   read-length zero = refl
   read-length (suc k) = rw length-append (ap (λ (n : ℕ). n + 1) (read-length k) ∙ add-one k)
 
-  -- With all of them readable they and the words delivered at the later places are the later first words:
-  read-from : (n k : ℕ) → k + n ≤ readable
-      → readFirst f d o readable k ++ deliveredAt f (placesFrom d o k n) ≡ readFirst f d o readable (k + n)
+  -- They and the words delivered at the later places are the later first words:
+  read-from : (n k : ℕ)
+      → readFirst f d o readable k ++ deliveredAt f readable k (placesFrom d o k n) ≡ readFirst f d o readable (k + n)
   unfolding readFirst
-  read-from zero k h = rw (add-zero, append-nil)
-  read-from (suc n) k h =
-      let one : readFirst f d o readable (k + 1) ≡ readFirst f d o readable k ++ (delivered f (placeOf d o k) ∷ []) =
-      rw (add-one, lt-ltb k readable (omega arith)) in
+  read-from zero k = rw (add-zero, append-nil)
+  read-from (suc n) k =
+      let one : readFirst f d o readable (k + 1) ≡ readFirst f d o readable k ++ (readWord f readable k (placeOf d o k) ∷ []) = rw add-one in
       let next : k + suc n ≡ k + 1 + n = omega arith in
-      rw (next, ← read-from n (k + 1) (omega arith), one, append-snoc)
+      rw (next, ← read-from n (k + 1), one, append-snoc)
 
   -- all of them are the words delivered at the places.
-  pub read-all : (n : ℕ) → n ≤ readable → readFirst f d o readable n ≡ deliveredAt f (placesFrom d o 0 n)
+  pub read-all : (n : ℕ) → readFirst f d o readable n ≡ deliveredAt f readable 0 (placesFrom d o 0 n)
   unfolding readFirst
-  read-all n h = sym (read-from n 0 (rw zero-add h) ∙ rw zero-add)
+  read-all n = sym (read-from n 0 ∙ rw zero-add)
 
   -- In a buffer that starts with them, the next word is set.
   pub read-next : (b : List ℕ) (k : ℕ) → k < length b
-      → set (readFirst f d o readable k ++ drop k b) k (readWord f d o readable k) ≡ readFirst f d o readable (suc k) ++ drop (suc k) b
+      → set (readFirst f d o readable k ++ drop k b) k (readWord f readable k (placeOf d o k)) ≡ readFirst f d o readable (suc k) ++ drop (suc k) b
   unfolding readFirst
   read-next b k h = rw (drop-cons b k 0, set-at (readFirst f d o readable k) _ _ _ k (read-length k), append-snoc)
 
--- With none of them readable they are ones.
-pub read-blank : (f : Flash) (d : ℕ) (o : Operation) (n : ℕ) → readFirst f d o 0 n ≡ replicate n allOnes
-unfolding readFirst
-read-blank f d o zero = refl
-read-blank f d o (suc n) =
-    rw (read-blank f d o n, le-ltb n 0 (omega arith)) (replicate-append-replicate n 1 allOnes ∙ ap (λ (m : ℕ). replicate m allOnes) (add-one n))
+-- ---- denied reads: the true words, and ones
+
+-- The words from word k on of a read whose true words all came before are ones;
+past-ones : (f : Flash) (d : ℕ) (o : Operation) (readable k n : ℕ) → readable ≤ k
+    → deliveredAt f readable k (placesFrom d o k n) ≡ replicate n allOnes
+unfolding readWord
+past-ones f d o readable k zero h = refl
+past-ones f d o readable k (suc n) h = rw (le-ltb k readable h, past-ones f d o readable (k + 1) n (omega arith))
+
+-- of one with r true words more, these come first.
+cut-from : (f : Flash) (d : ℕ) (o : Operation) (k r n : ℕ)
+    → deliveredAt f (k + r) k (placesFrom d o k (r + n)) ≡ wordsAt f (placesFrom d o k r) ++ replicate n allOnes
+unfolding readWord
+cut-from f d o k zero n = rw (add-zero, zero-add) (past-ones f d o k k n (omega arith))
+cut-from f d o k (suc r) n =
+    let all : suc r + n ≡ suc (r + n) = omega arith in
+    let next : k + suc r ≡ k + 1 + r = omega arith in
+    rw (all, next, lt-ltb k (k + 1 + r) (omega arith)) (ap (λ (ws : List ℕ). delivered f (placeOf d o k) ∷ ws) (cut-from f d o (k + 1) r n))
+
+-- The first r of n words have the first r of their places.
+take-places : (d : ℕ) (o : Operation) (k r n : ℕ) → r ≤ n → take r (placesFrom d o k n) ≡ placesFrom d o k r
+take-places d o k zero n h = refl
+take-places d o k (suc r) zero h = absurd (omega arith)
+take-places d o k (suc r) (suc n) h = ap (λ (ps : List BusWord). placeOf d o k ∷ ps) (take-places d o (k + 1) r n (omega arith))
+
+module _ (s : Setup) (o : Operation) (r : isRead o ≡ true) where
+  all-words : totalWords (s .pages) o ≡ o .count
+  all-words = moving-words (s .pages) o (omega (arith, eqb-true (o .kind) 0 r))
+
+  -- So a read delivers its true words, and then ones;
+  pub read-cut : (f : Flash)
+      → deliveredAt f (readableWords s o) 0 (placesOf (s .pages) o) ≡ wordsAt f (truePlaces s o) ++ replicate (o .count - readableWords s o) allOnes
+  unfolding placesOf truePlaces
+  read-cut f =
+      let all : totalWords (s .pages) o ≡ readableWords s o + (o .count - readableWords s o) = all-words ∙ omega (arith, readable-le s o r) in
+      rw all (rw (zero-add (readableWords s o)) at (cut-from f (s .pages) o 0 (readableWords s o) (o .count - readableWords s o)))
+
+  -- its true words have the first of its places,
+  pub true-first : take (readableWords s o) (placesOf (s .pages) o) ≡ truePlaces s o
+  unfolding placesOf truePlaces
+  true-first = take-places (s .pages) o 0 (readableWords s o) (totalWords (s .pages) o) (rw all-words (readable-le s o r))
+
+  -- and all of them if it is accepted.
+  pub true-all : accepts (operationAnswer s o) ≡ true → truePlaces s o ≡ placesOf (s .pages) o
+  unfolding placesOf truePlaces
+  true-all ok = rw (all-words, ← accepted-readable s o r ok)
 
 -- ---- programs and erases
 

@@ -6,7 +6,7 @@ use Rattle.model.specs.State.{Flash}
 use Rattle.model.specs.Whole.{whole}
 use Rattle.model.specs.declared.Operation.{Operation}
 use Rattle.model.specs.declared.Controller.{Controller}
-use Rattle.plans.specs.Plan.{Plan, Refused, Recorded, Blank, Reads, Programs, Erases, planOf, performed}
+use Rattle.plans.specs.Plan.{Plan, Refused, Recorded, Reads, Programs, Erases, planOf, performed}
 use Rattle.plans.proofs.ClosedFormProof.{closed-form}
 
 performed-leaves : (c : Controller) (f : Flash) (o : Operation) (b : List ℕ) (p : Plan)
@@ -14,8 +14,7 @@ performed-leaves : (c : Controller) (f : Flash) (o : Operation) (b : List ℕ) (
 unfolding performed
 performed-leaves c f o b (Refused a) = (refl, refl)
 performed-leaves c f o b (Recorded a) = (refl, refl)
-performed-leaves c f o b (Blank a n) = (refl, refl)
-performed-leaves c f o b (Reads ps) = (refl, refl)
+performed-leaves c f o b (Reads a readable ps) = (refl, refl)
 performed-leaves c f o b (Programs ps) = (refl, refl)
 performed-leaves c f o b (Erases ps) = (refl, refl)
 

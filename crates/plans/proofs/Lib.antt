@@ -8,6 +8,7 @@ pub mod Turns
 pub mod Wholes
 pub mod ClosedFormProof
 pub mod Left
+pub mod Cases
 pub mod Changes
 pub mod Drives
 pub mod DrivenReads

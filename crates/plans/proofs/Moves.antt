@@ -12,7 +12,7 @@ use Rattle.model.specs.Places.{totalWords, placeOf}
 use Rattle.model.specs.Queue.{queueOf, isEmpty, isFull, pushed, oldest, popped}
 use Rattle.model.specs.State.{Flash, flashFits, Leaves, stored, withWord, withReads, withPrograms}
 use Rattle.model.specs.Refusals.{accepts}
-use Rattle.model.specs.Steps.{countedBits, movement, stalls, advance, step, pushAnswer, push}
+use Rattle.model.specs.Steps.{readWord, countedBits, movement, stalls, advance, step, pushAnswer, push}
 use Rattle.model.specs.declared.Errors.{Errors}
 use Rattle.model.specs.declared.Queue.{Queue}
 use Rattle.model.specs.declared.Queues.{Queues}
@@ -28,7 +28,6 @@ use Rattle.model.proofs.WorkParts.{work-parts}
 use Rattle.model.proofs.Accepting.{push-passed}
 use Rattle.plans.proofs.Holding.{Holds, holds-none, pushed-made}
 use Rattle.plans.proofs.Running.{progressAt, stateAt, Begun, Queued, steps-move, pushes}
-use Rattle.plans.proofs.Firsts.{readWord}
 
 -- A program moves as many words as it counts.
 pub program-words : {c : Controller} {es : Errors} {o : Operation} → Begun c es (Program o 0) → totalWords (c .setup .pages) o ≡ o .count
@@ -86,7 +85,7 @@ module _ {c : Controller} {es : Errors} {o : Operation} {k : ℕ} {q : Queues} (
   -- A read's step puts the next word into the read queue;
   pub read-moves : {r : ℕ} → Begun c es (Read o 0 r) → Queued c (Read o 0 r) k q → isFull (q .reads) ≡ false
       → step (stateAt c es (Read o 0 r) k q) g
-      ≡ movedTo (stateAt c es (Read o 0 r) (k + 1) (withReads q (pushed (q .reads) (readWord g (c .setup .pages) o r k))))
+      ≡ movedTo (stateAt c es (Read o 0 r) (k + 1) (withReads q (pushed (q .reads) (readWord g r k (placeOf (c .setup .pages) o k)))))
       (movement (totalWords (c .setup .pages) o) k) 0 g
   unfolding stateAt stalls advance
   read-moves b h s = steps-move b h g l more s

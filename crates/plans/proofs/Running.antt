@@ -12,7 +12,7 @@ use Rattle.model.specs.Queue.{isEmpty, pushed, oldest, popped}
 use Rattle.model.specs.State.{Flash, flashFits, isBusy, withErrors, withQueues, withReads, withPrograms, operationOf}
 use Rattle.model.specs.Refusals.{numberOf, accepts, readyAnswer, refused}
 use Rattle.model.specs.Checks.{operationAnswer}
-use Rattle.model.specs.Errors.{recorded}
+use Rattle.model.specs.Errors.{withRecorded}
 use Rattle.model.specs.Valid.{errorsFit, workFits, runningFits, valid, validWith}
 use Rattle.model.specs.Steps.{starts, workOf, start, stalls, advance, still, pushAnswer, push, popAnswer, pop, step}
 use Rattle.model.specs.declared.Errors.{Errors}
@@ -51,7 +51,7 @@ stateAt c es w k q = changed c (c .phase) es q (progressAt w (wordsOf c w) k)
 
 -- The error record that a start leaves: its answer is recorded.
 abbrev pub recordedBy : Controller → Operation → Errors
-recordedBy c o = recorded (numberOf (operationAnswer (c .setup) o)) (o .address) (c .errors)
+recordedBy c o = withRecorded c (numberOf (operationAnswer (c .setup) o)) o .errors
 
 -- Of work that a free controller starts,
 pub record Begun (c : Controller) (es : Errors) (w : Work) : Type 0 where

@@ -11,7 +11,7 @@ use Rattle.model.specs.Words.{allOnes}
 use Rattle.model.specs.Kinds.{isRead, isProgram}
 use Rattle.model.specs.Places.{totalWords, placeOf}
 use Rattle.model.specs.State.{Flash, flashFits, stored, withWord, withReads, withPrograms}
-use Rattle.model.specs.Steps.{countedBits}
+use Rattle.model.specs.Steps.{readWord, countedBits}
 use Rattle.model.specs.Whole.{Run, turn, turns}
 use Rattle.model.specs.declared.Errors.{Errors}
 use Rattle.model.specs.declared.Operation.{Operation}
@@ -20,7 +20,7 @@ use Rattle.model.specs.declared.Controller.{Controller}
 use Rattle.plans.specs.Plan.{programming, erasing}
 use Rattle.plans.proofs.Holding.{holds-made, pushed-made, popped-made, oldest-first, drained, drained-holds}
 use Rattle.plans.proofs.Running.{stateAt, Begun, pops}
-use Rattle.plans.proofs.Firsts.{readWord, readFirst, read-next, storedFirst, changedFirst, first-fits}
+use Rattle.plans.proofs.Firsts.{readFirst, read-next, storedFirst, changedFirst, first-fits}
 use Rattle.plans.proofs.Moves.{program-words, read-queued, program-queued, erase-queued, program-pushes, read-moves, program-moves, erase-moves}
 
 -- What the calls work on.
@@ -45,10 +45,10 @@ module _ (c : Controller) (es : Errors) (o : Operation) (f : Flash) (b : List �
   module _ (readable : ℕ) (begun : Begun c es (Read o 0 readable)) (kind : isRead o ≡ true) where
     -- A step and a pop put the next word into the buffer,
     read-turn : (k : ℕ) (rest : List ℕ) → k < totalWords (c .setup .pages) o
-        → turn o k (reading c es o f readable k rest) ≡ reading c es o f readable (suc k) (set rest k (readWord f (c .setup .pages) o readable k))
+        → turn o k (reading c es o f readable k rest) ≡ reading c es o f readable (suc k) (set rest k (readWord f readable k (placeOf (c .setup .pages) o k)))
     unfolding turn reading drained
     read-turn k rest h =
-        let v : ℕ = readWord f (c .setup .pages) o readable k in
+        let v : ℕ = readWord f readable k (placeOf (c .setup .pages) o k) in
         let none = drained-holds k (c .queues .reads) (begun .free .reads) in
         let one = holds-made (v ∷ []) in
         rw (

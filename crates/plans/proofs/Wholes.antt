@@ -56,7 +56,7 @@ module _ (c : Controller) (f : Flash) (o : Operation) (b : List ℕ) (free : acc
     -- What it records fits,
     errors-fit : errorsFit (recordedBy c o) ≡ true
     errors-fit =
-        recorded-fits (numberOf (operationAnswer (c .setup) o)) (o .address) (c .errors) (valid-parts c (whole-free c f free .fits) .errors)
+        recorded-fits (numberOf (operationAnswer (c .setup) o)) _ (c .errors) (valid-parts c (whole-free c f free .fits) .errors)
 
     -- and so does its work: a read's,
     pub read-begun : isRead o ≡ true → Begun c (recordedBy c o) (Read o 0 (readableWords (c .setup) o))

@@ -2,18 +2,19 @@
 -- Neither mentions a step or a queue's words.
 use Prim.Native.Nat.{ℕ, zero, suc, _+_}
 use mathlib.Core.Path.{_≡_}
-use mathlib.Core.Bool.{_&&_, cond}
+use mathlib.Core.Bool.{cond}
 use mathlib.Core.List.{List, [], _∷_, _++_}
-use lib.ListN.{length, getD, drop, replicate}
+use lib.ListN.{length, getD, drop}
 use Rattle.model.specs.Words.{allOnes, programmed}
 use Rattle.model.specs.Kinds.{isRead, isProgram}
 use Rattle.model.specs.Places.{totalWords, placeOf}
 use Rattle.model.specs.Queue.{emptyQueue}
 use Rattle.model.specs.State.{Flash, stored, withWord, withQueues, withReads, withPrograms}
-use Rattle.model.specs.Refusals.{numberOf, accepts, isDenied}
+use Rattle.model.specs.Rights.{readableWords}
+use Rattle.model.specs.Refusals.{numberOf, accepts}
 use Rattle.model.specs.Checks.{operationAnswer}
 use Rattle.model.specs.Errors.{withRecorded}
-use Rattle.model.specs.Steps.{delivered, countedBits}
+use Rattle.model.specs.Steps.{starts, delivered, readWord, countedBits}
 use Rattle.model.specs.Whole.{WholeLeaves, leaving, wholeAnswer, shortBuffer, whole}
 use Rattle.model.specs.declared.BusWord.{BusWord}
 use Rattle.model.specs.declared.Operation.{Operation}
@@ -24,14 +25,13 @@ use Rattle.model.specs.declared.Answer.the-variants.{Accepted, ShortBuffer}
 
 -- ---- the plan
 
--- `Refused` changes nothing, `Recorded` the error record alone. A `Blank` read is recorded too, and delivers n words of ones.
--- Each of these has the answer, with what it reports.
--- The others start: they read, program or erase these places, in this order.
+-- `Refused` changes nothing, `Recorded` the error record alone: each has the answer, with what it reports.
+-- The others start: they read, program or erase these places, in this order. Of a read so many words, from the first on, are the
+-- true ones, and the others ones; it has its answer too, which is recorded if it is 9.
 pub data Plan : Type 0 where
   Refused : Answer → Plan
   Recorded : Answer → Plan
-  Blank : Answer → ℕ → Plan
-  Reads : List BusWord → Plan
+  Reads : Answer → ℕ → List BusWord → Plan
   Programs : List BusWord → Plan
   Erases : List BusWord → Plan
 
@@ -43,28 +43,37 @@ placesFrom d o k (suc n) = placeOf d o k ∷ placesFrom d o (k + 1) n
 unfoldable pub placesOf : ℕ → Operation → List BusWord
 placesOf d o = placesFrom d o 0 (totalWords d o)
 
-abbrev pub planStarted : ℕ → Operation → Plan
-planStarted d o =
-    cond (isRead o) (Reads (placesOf d o)) (cond (isProgram o) (Programs (placesOf d o)) (Erases (placesOf d o)))
+-- The places of a read's true words.
+unfoldable pub truePlaces : Setup → Operation → List BusWord
+truePlaces s o = placesFrom (s .pages) o 0 (readableWords s o)
+
+abbrev pub planStarted : Setup → Operation → Answer → Plan
+planStarted s o a =
+    cond (isRead o) (Reads a (readableWords s o) (placesOf (s .pages) o))
+    (cond (isProgram o) (Programs (placesOf (s .pages) o)) (Erases (placesOf (s .pages) o)))
 
 -- By the answer of checks 5, 7, 8 and 9.
-abbrev pub planAnswered : ℕ → Operation → Answer → Plan
-planAnswered d o a =
-    cond (accepts a) (planStarted d o) (cond (isRead o && isDenied a) (Blank a (o .count)) (Recorded a))
+abbrev pub planAnswered : Setup → Operation → Answer → Plan
+planAnswered s o a = cond (starts o a) (planStarted s o a) (Recorded a)
 
 -- Checks 1 to 4, then 6 of a well-formed operation, then the others.
 unfoldable pub planOf : Controller → Flash → Operation → List ℕ → Plan
 planOf c f o b =
     cond (accepts (wholeAnswer c f))
-    (cond (shortBuffer o b) (Refused ShortBuffer) (planAnswered (c .setup .pages) o (operationAnswer (c .setup) o)))
+    (cond (shortBuffer o b) (Refused ShortBuffer) (planAnswered (c .setup) o (operationAnswer (c .setup) o)))
     (Refused (wholeAnswer c f))
 
 -- ---- its performance
 
--- The words that a read delivers at its places.
-abbrev pub deliveredAt : Flash → List BusWord → List ℕ
-deliveredAt f [] = []
-deliveredAt f (p ∷ ps) = delivered f p ∷ deliveredAt f ps
+-- The words that a read delivers, from word k on, whose places these are.
+abbrev pub deliveredAt : Flash → ℕ → ℕ → List BusWord → List ℕ
+deliveredAt f readable k [] = []
+deliveredAt f readable k (p ∷ ps) = readWord f readable k p ∷ deliveredAt f readable (k + 1) ps
+
+-- The true words at places.
+abbrev pub wordsAt : Flash → List BusWord → List ℕ
+wordsAt f [] = []
+wordsAt f (p ∷ ps) = delivered f p ∷ wordsAt f ps
 
 -- Word k, at the next place, becomes `new k old`: the flash after all of them, and the bits that count as changed.
 abbrev pub stored-all : (ℕ → ℕ → ℕ) → ℕ → List BusWord → Flash → Flash
@@ -94,9 +103,8 @@ programsDrained c = withQueues c (withPrograms (c .queues) emptyQueue)
 unfoldable pub performed : Controller → Flash → Operation → List ℕ → Plan → WholeLeaves
 performed c f o b (Refused a) = leaving c a 0 f b
 performed c f o b (Recorded a) = leaving (withRecorded c (numberOf a) o) a 0 f b
-performed c f o b (Blank a n) =
-    leaving (readsDrained (withRecorded c (numberOf a) o)) a 0 f (replicate n allOnes ++ drop n b)
-performed c f o b (Reads ps) = leaving (readsDrained c) Accepted 0 f (deliveredAt f ps ++ drop (length ps) b)
+performed c f o b (Reads a readable ps) =
+    leaving (readsDrained (withRecorded c (numberOf a) o)) a 0 f (deliveredAt f readable 0 ps ++ drop (length ps) b)
 performed c f o b (Programs ps) =
     leaving (programsDrained c) Accepted (changed-all (c .setup) (programming b) 0 ps f) (stored-all (programming b) 0 ps f) b
 performed c f o b (Erases ps) =

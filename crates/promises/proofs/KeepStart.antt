@@ -4,7 +4,7 @@ use mathlib.Core.Bool.{true, false}
 use Rattle.model.specs.State.{isBusy}
 use Rattle.model.specs.Refusals.{accepts, readyAnswer, numberOf}
 use Rattle.model.specs.Checks.{operationAnswer}
-use Rattle.model.specs.Errors.{recorded}
+use Rattle.model.specs.Errors.{recorded, errorAddress}
 use Rattle.model.specs.Steps.{startAnswer, starts, progressAfter, started, start}
 use Rattle.model.specs.Valid.{runningFits, valid}
 use Rattle.model.specs.declared.Operation.{Operation}
@@ -34,8 +34,9 @@ start-keeps c o v = by-test (accepts (startAnswer c)) (λ a. rw a (begun a)) (λ
     begun : accepts (startAnswer c) ≡ true → Valid (started c o (operationAnswer (c .setup) o) .controller)
     begun a =
         let (r, b) = both-accept (readyAnswer (valid c) (c .phase)) _ a in
-        let e = recorded (numberOf (operationAnswer (c .setup) o)) (o .address) (c .errors) in
+        let n = numberOf (operationAnswer (c .setup) o) in
+        let at = errorAddress (c .setup) n o in
         let p : Progress = progressAfter c o (operationAnswer (c .setup) o) in
-        ready-keeps c (c .phase) e (c .queues) p v (ready-passed (valid c) (c .phase) r)
-        (recorded-fits (numberOf (operationAnswer (c .setup) o)) (o .address) (c .errors) (v .errors)) (v .reads) (v .programs)
+        ready-keeps c (c .phase) (recorded n at (c .errors)) (c .queues) p v (ready-passed (valid c) (c .phase) r)
+        (recorded-fits n at (c .errors) (v .errors)) (v .reads) (v .programs)
         (progress-after c o v (check-passed (isBusy (c .progress)) Busy refl b))

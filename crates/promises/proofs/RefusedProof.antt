@@ -1,9 +1,10 @@
 -- A refused call moves nothing. Assumes nothing.
 use mathlib.Core.Path.{_≡_, refl, sym, ap, _∙_}
-use mathlib.Core.Bool.{true, false, _&&_, cond}
+use mathlib.Core.Bool.{true, false, cond}
 use Rattle.model.specs.Kinds.{isRead}
 use Rattle.model.specs.State.{isBusy}
-use Rattle.model.specs.Refusals.{numberOf, accepts, isDenied}
+use Rattle.model.specs.Rights.{readableWords}
+use Rattle.model.specs.Refusals.{numberOf, accepts, isDeniedRead}
 use Rattle.model.specs.Checks.{operationAnswer}
 use Rattle.model.specs.Valid.{valid}
 use Rattle.model.specs.Errors.{clear}
@@ -19,9 +20,9 @@ use Rattle.model.specs.declared.Progress.the-variants.{Running}
 use Rattle.model.specs.declared.Controller.{Controller}
 use Rattle.model.specs.declared.HostRequest.the-variants.{Nothing, Word}
 use Rattle.model.specs.declared.Turn.the-variants.{Served}
-use Rattle.model.proofs.Bool.{by-test}
+use Rattle.model.proofs.Bool.{and-left, by-test}
 use Rattle.model.proofs.Answers.{accepts-not, unrecorded}
-use Rattle.model.proofs.StepLaws.{blank-work, start-goes-on, start-stops, step-refused}
+use Rattle.model.proofs.StepLaws.{read-work, start-goes-on, start-stops, step-refused}
 use Rattle.model.proofs.Rounds.{BothAsked, host, instead, both, both-asked, competes-goes, goes-accepted}
 use Rattle.promises.specs.Calls.{Call, State, Reset, SetInputs, SetRegion, SetDefault, SetInfo, SetErase, Initialise, Start, Step, Push, Pop, Whole, HostRead, ViewPage, Clear, Rma, Round, perform}
 use Rattle.promises.specs.Refused.{leftBy, refusedReply, Leaves, RefusedMovesNothing, RefusedHostServed}
@@ -29,12 +30,13 @@ use Rattle.promises.proofs.Unrecorded.{start-unrecorded}
 use Rattle.promises.proofs.NamedProof.{call-tells}
 use Rattle.promises.proofs.RefusedWholes.{whole-left}
 
--- A start refused with 5, 7, 8 or 9 starts nothing but a denied read, blank;
+-- A start refused with 5, 7, 8 or 9 starts nothing but a denied read, with its readable words;
 progress-left : (c : Controller) (o : Operation) → accepts (operationAnswer (c .setup) o) ≡ false
     → progressAfter c o (operationAnswer (c .setup) o)
-    ≡ cond (isRead o && isDenied (operationAnswer (c .setup) o)) (Running (Read o 0 0)) (c .progress)
+    ≡ cond (isDeniedRead o (numberOf (operationAnswer (c .setup) o))) (Running (Read o 0 (readableWords (c .setup) o))) (c .progress)
 progress-left c o n =
-    by-test (isRead o && isDenied (operationAnswer (c .setup) o)) (λ b. rw (n, b, blank-work (c .setup) o b)) (λ b. rw (n, b))
+    by-test (isDeniedRead o (numberOf (operationAnswer (c .setup) o)))
+    (λ d. rw (n, d, read-work (c .setup) o (and-left (isRead o) _ d))) (λ d. rw (n, d))
 
 -- it is recorded,
 started-left : (c : Controller) (o : Operation) → accepts (operationAnswer (c .setup) o) ≡ false

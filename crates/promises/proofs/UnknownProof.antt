@@ -2,15 +2,15 @@
 use Prim.Native.Nat.{ℕ, _≤_}
 use mathlib.Core.Path.{_≡_, refl, sym, ap, _∙_}
 use mathlib.Core.Bool.{Bool, true, false}
+use mathlib.Core.List.{List}
 use lib.Dec.{ltb}
 use lib.ListN.{length}
 use borrow.Author.Tests.{le-ltb}
-use native.Mathlib.Omega.{arith}
 use Rattle.model.specs.State.{Flash, Leaves}
-use Rattle.model.specs.Refusals.{numberOf, accepts, readyAnswer}
+use Rattle.model.specs.Refusals.{numberOf, accepts, isDeniedRead, readyAnswer}
 use Rattle.model.specs.Valid.{lostLimit, validWith}
 use Rattle.model.specs.Lifecycle.{initialiseAnswer, initialise, rmaAnswer, rma}
-use Rattle.model.specs.Steps.{stalls, advance, stepProgress, step}
+use Rattle.model.specs.Steps.{stalls, readWord, advance, stepProgress, step}
 use Rattle.model.specs.Host.{hostAnswer, hostRead, viewAnswer, view}
 use Rattle.model.specs.Rounds.{wouldMove, nextBank, competes, lostIn, hostServed, hostGoes, stepGoes, bothGo, round}
 use Rattle.model.specs.declared.ByteAddress.{ByteAddress}
@@ -26,10 +26,11 @@ use Rattle.model.proofs.Bool.{by-test}
 use Rattle.model.proofs.Answers.{accepts-not}
 use Rattle.model.proofs.Flashes.{same-fits}
 use Rattle.model.proofs.StepLaws.{step-ready, step-unready, running-accepts}
+use Rattle.plans.specs.Plan.{wordsAt}
 use Rattle.plans.proofs.Changes.{whole-answers}
 use Rattle.promises.specs.Calls.{Call, State, Reply, Reset, SetInputs, SetRegion, SetDefault, SetInfo, SetErase, Initialise, Start, Step, Push, Pop, Whole, HostRead, ViewPage, Clear, Rma, Round, byRound, perform}
-use Rattle.promises.specs.Refused.{leftBy, reportOf, refusedReply}
-use Rattle.promises.specs.Unknown.{stateOf, stepSide, Alike, RefusedUnknown, RefusedHostUnknown, BlankUnknown}
+use Rattle.promises.specs.Refused.{bufferBy, leftBy, reportOf, refusedReply}
+use Rattle.promises.specs.Unknown.{stateOf, stepSide, Alike, toldPlaces, RefusedUnknown, RefusedHostUnknown, PastUnknown}
 use Rattle.promises.proofs.RefusedProof.{refused-moves-nothing}
 
 -- ---- on two images of the same length
@@ -98,35 +99,43 @@ module _ (c : Controller) (f g : Flash) (long : length (f .words) ≡ length (g 
   unfolding hostRead hostAnswer
   host-unknown a h = let n = accepts-not (hostAnswer c g a) (rw same-valid at h) in rw (same-valid, n)
 
--- What a refused call leaves and tells follows from the controller and its answer, but for the host's side of a round.
+-- What a refused call leaves and tells follows from the controller, its answer and a denied read's true words, but for the host's
+-- side of a round.
 abbrev toldBy : State → Call → ℕ → Reply
 toldBy s k n = refusedReply s k n (reportOf s k n)
 
-side-told : (c : Controller) (f g : Flash) (k : Call) (n : ℕ) → stepSide (toldBy (stateOf c f) k n) ≡ stepSide (toldBy (stateOf c g) k n)
-side-told c f g (Reset d) n = refl
-side-told c f g (SetInputs i) n = refl
-side-told c f g (SetRegion k r) n = refl
-side-told c f g (SetDefault r) n = refl
-side-told c f g (SetInfo bank t page p) n = refl
-side-told c f g (SetErase bank on) n = refl
-side-told c f g Initialise n = refl
-side-told c f g (Start o) n = refl
-side-told c f g Step n = refl
-side-told c f g (Push w) n = refl
-side-told c f g Pop n = refl
-side-told c f g (Whole o b) n = refl
-side-told c f g (HostRead a) n = refl
-side-told c f g (ViewPage p) n = refl
-side-told c f g Clear n = refl
-side-told c f g Rma n = refl
-side-told c f g (Round h b) n = refl
+-- A denied read tells its true words and then ones, the same on both images if its true words are;
+buffer-told : (c : Controller) (f g : Flash) (o : Operation) (b : List ℕ) (n : ℕ)
+    → wordsAt f (toldPlaces c (Whole o b) n) ≡ wordsAt g (toldPlaces c (Whole o b) n) → bufferBy (stateOf c f) o b n ≡ bufferBy (stateOf c g) o b n
+buffer-told c f g o b n = by-test (isDeniedRead o n) (λ d. rw d (λ same. rw same)) (λ d. rw d (λ same. refl))
+
+-- any other refused call tells no word.
+side-told : (c : Controller) (f g : Flash) (k : Call) (n : ℕ) → wordsAt f (toldPlaces c k n) ≡ wordsAt g (toldPlaces c k n)
+    → stepSide (toldBy (stateOf c f) k n) ≡ stepSide (toldBy (stateOf c g) k n)
+side-told c f g (Reset d) n same = refl
+side-told c f g (SetInputs i) n same = refl
+side-told c f g (SetRegion k r) n same = refl
+side-told c f g (SetDefault r) n same = refl
+side-told c f g (SetInfo bank t page p) n same = refl
+side-told c f g (SetErase bank on) n same = refl
+side-told c f g Initialise n same = refl
+side-told c f g (Start o) n same = refl
+side-told c f g Step n same = refl
+side-told c f g (Push w) n same = refl
+side-told c f g Pop n same = refl
+side-told c f g (Whole o b) n same = rw (buffer-told c f g o b n same)
+side-told c f g (HostRead a) n same = refl
+side-told c f g (ViewPage p) n same = refl
+side-told c f g Clear n same = refl
+side-told c f g Rma n same = refl
+side-told c f g (Round h b) n same = refl
 
 pub refused-unknown : RefusedUnknown
-refused-unknown c f g k long h =
+refused-unknown c f g k long w h =
     let same = same-answer c f g long k in
     let here = refused-moves-nothing (stateOf c f) k h in
     let there = refused-moves-nothing (stateOf c g) k (rw same at h) in
-    let alike = side-told c f g k _ in
+    let alike = side-told c f g k _ (rw same at w) in
     record {
       reply = ap stepSide (here .reply ∙ ap (toldBy (stateOf c f) k) same) ∙ (alike ∙ sym (ap stepSide (there .reply)));
       controller = here .controller ∙ (ap (leftBy c k) same ∙ sym (there .controller));
@@ -141,19 +150,19 @@ refused-host-unknown c f g (Word a) true long h =
     by-both c f g long (λ x y. (numberOf (x .result .host .answer) ≡ 0 → ⊥) → x .result .host ≡ y .result .host) a
     (host-unknown c f g long a) (λ n. absurd (n refl)) (host-unknown c f g long a) h
 
--- A step of a read past its readable words leaves the same result on every image.
-blank-step : (c : Controller) (f g : Flash) (o : Operation) (moved readable : ℕ) → readable ≤ moved
+-- A step of a read past its true words leaves the same result on every image.
+past-step : (c : Controller) (f g : Flash) (o : Operation) (moved readable : ℕ) → readable ≤ moved
     → stepProgress c f (Running (Read o moved readable)) .result ≡ stepProgress c g (Running (Read o moved readable)) .result
-unfolding stepProgress advance
-blank-step c f g o moved readable past =
+unfolding stepProgress advance readWord
+past-step c f g o moved readable past =
     by-test (stalls (c .queues) (Read o moved readable)) (λ e. rw e) (λ e. rw (e, le-ltb moved readable past))
 
 -- So does any step of it, refused or not,
-blank-result : (c : Controller) (f g : Flash) {o : Operation} {moved readable : ℕ} → length (f .words) ≡ length (g .words)
+past-result : (c : Controller) (f g : Flash) {o : Operation} {moved readable : ℕ} → length (f .words) ≡ length (g .words)
     → c .progress ≡ Running (Read o moved readable) → readable ≤ moved → step c f .result ≡ step c g .result
-blank-result c f g long p past =
+past-result c f g long p past =
     by-test (accepts (readyAnswer (validWith c g) (c .phase)))
-    (λ e. rw (step-ready c f (rw (same-valid c f g long) e) p, step-ready c g e p) (blank-step c f g _ _ _ past))
+    (λ e. rw (step-ready c f (rw (same-valid c f g long) e) p, step-ready c g e p) (past-step c f g _ _ _ past))
     (λ e. rw (step-unready c f (rw (same-valid c f g long) e), step-unready c g e, same-valid c f g long))
 
 -- and the result is all that it tells and leaves of the controller, as of a round with it.
@@ -168,10 +177,10 @@ round-alike c f g (Word a) true long same = record {
   controller = by-both c f g long (λ x y. x .result .controller ≡ y .result .controller) a refl (rw same) (rw same);
 }
 
-pub blank-unknown : BlankUnknown
+pub past-unknown : PastUnknown
 unfolding perform
-blank-unknown c f g o moved long p =
-    let same = blank-result c f g long p (omega arith) in (
+past-unknown c f g o moved readable long p past =
+    let same = past-result c f g long p past in (
       record { reply = rw same; controller = rw same },
       λ h b. round-alike c f g h b long same,
     )

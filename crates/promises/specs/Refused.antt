@@ -1,18 +1,17 @@
--- A refused call moves no flash, and leaves the controller and its reply exactly as 01's table says.
-use Prim.Native.Nat.{ℕ}
+-- A refused call moves no flash, and leaves the controller and its reply exactly as 01's table and 02's L3 say.
+use Prim.Native.Nat.{ℕ, _-_}
 use mathlib.Core.Path.{_≡_}
-use mathlib.Core.Bool.{Bool, false, _&&_, cond}
+use mathlib.Core.Bool.{Bool, false, cond}
 use mathlib.Core.List.{List, [], _++_}
 use lib.Dec.{eqb}
 use lib.ListN.{drop, replicate}
 use Rattle.model.specs.Geometry.{pageOf}
 use Rattle.model.specs.Words.{allOnes}
-use Rattle.model.specs.Kinds.{isRead}
 use Rattle.model.specs.Queue.{emptyQueue}
 use Rattle.model.specs.State.{withProgress, withQueues, withReads}
 use Rattle.model.specs.Errors.{withRecorded}
-use Rattle.model.specs.Rights.{rulingAt, deciderOf}
-use Rattle.model.specs.Refusals.{numberOf, deciderNumber, noDecider}
+use Rattle.model.specs.Rights.{rulingAt, deciderOf, readableWords}
+use Rattle.model.specs.Refusals.{numberOf, deciderNumber, noDecider, isDeniedRead}
 use Rattle.model.specs.Lifecycle.{noSeeds}
 use Rattle.model.specs.Host.{View, hostRead}
 use Rattle.model.specs.Rounds.{hostUnserved, hostServed}
@@ -25,23 +24,26 @@ use Rattle.model.specs.declared.HostRequest.{HostRequest}
 use Rattle.model.specs.declared.HostRequest.the-variants.{Nothing, Word}
 use Rattle.model.specs.declared.Turn.the-variants.{Unasked, Served}
 use Rattle.model.specs.declared.HostTurn.{HostTurn}
+use Rattle.plans.specs.Plan.{truePlaces, wordsAt}
 use Rattle.promises.specs.Calls.{Call, State, Reply, Reset, SetInputs, SetRegion, SetDefault, SetInfo, SetErase, Initialise, Start, Step, Push, Pop, Whole, HostRead, ViewPage, Clear, Rma, Round, noView, plainly, withTurns, told, perform}
 
--- A denied read (9) is refused and still runs, blank: it delivers ones.
-abbrev pub isBlank : Operation → ℕ → Bool
-isBlank o n = isRead o && eqb n 9
-
--- A refused start has started nothing but a blank read.
+-- A refused start has started nothing but a denied read, whose words before the first denied page are readable.
 abbrev pub startedBy : Controller → Operation → ℕ → Controller
-startedBy c o n = withProgress (withRecorded c n o) (cond (isBlank o n) (Running (Read o 0 0)) (c .progress))
+startedBy c o n =
+    withProgress (withRecorded c n o)
+    (cond (isDeniedRead o n) (Running (Read o 0 (readableWords (c .setup) o))) (c .progress))
 
--- A refused whole operation has run nothing but a blank read, whose words went through the read queue.
+-- A refused whole operation has run nothing but a denied read, whose words went through the read queue.
 abbrev pub drivenBy : Controller → Operation → ℕ → Controller
-drivenBy c o n = withQueues (withRecorded c n o) (cond (isBlank o n) (withReads (c .queues) emptyQueue) (c .queues))
+drivenBy c o n = withQueues (withRecorded c n o) (cond (isDeniedRead o n) (withReads (c .queues) emptyQueue) (c .queues))
 
--- The lent buffer: a blank read puts ones into its first n places, any other refusal leaves it as it was.
-abbrev pub bufferBy : Operation → List ℕ → ℕ → List ℕ
-bufferBy o b n = cond (isBlank o n) (replicate (o .count) allOnes ++ drop (o .count) b) b
+-- The lent buffer: a denied read puts its true words and then ones into its first n places, any other refusal leaves it as it was.
+abbrev pub bufferBy : State → Operation → List ℕ → ℕ → List ℕ
+bufferBy s o b n =
+    cond (isDeniedRead o n)
+    (wordsAt (s .flash) (truePlaces (s .controller .setup) o)
+    ++ (replicate (o .count - readableWords (s .controller .setup) o) allOnes ++ drop (o .count) b))
+    b
 
 -- What refusal n leaves of the controller: 5, 7, 8 and 9 of an operation are recorded. Else all is unchanged.
 abbrev pub leftBy : Controller → Call → ℕ → Controller
@@ -111,7 +113,7 @@ refusedReply s (Start o) n by = told n by
 refusedReply s Step n by = told n by
 refusedReply s (Push w) n by = told n by
 refusedReply s Pop n by = told n by
-refusedReply s (Whole o b) n by = plainly n by None 0 0 noSeeds noView (bufferBy o b n)
+refusedReply s (Whole o b) n by = plainly n by None 0 0 noSeeds noView (bufferBy s o b n)
 refusedReply s (HostRead a) n by = told n by
 refusedReply s (ViewPage p) n by = plainly n by None 0 0 noSeeds (refusedView n by) []
 refusedReply s Clear n by = told n by

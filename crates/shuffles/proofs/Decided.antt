@@ -11,11 +11,12 @@ use Rattle.model.specs.Valid.{all}
 use Rattle.model.specs.declared.ImagePage.{ImagePage}
 use Rattle.model.specs.declared.BusWord.{BusWord}
 use Rattle.model.specs.declared.Errors.{Errors}
+use Rattle.model.specs.declared.Setup.{Setup}
 use Rattle.model.proofs.Bool.{and-left, and-right, by-test}
 use Rattle.plans.specs.Plan.{Plan}
 use Rattle.shuffles.specs.Shuffle.{Job, State, after, endOf, hasOne, changesPage, touchesPage, planAt, along, changes, touches, Apart}
 use Rattle.shuffles.proofs.Pages.{Off}
-use Rattle.shuffles.proofs.Views.{errorsAfter, kindsBy}
+use Rattle.shuffles.proofs.Views.{View, viewOf, errorsAfter, kindsBy}
 use Rattle.shuffles.proofs.Commute.{some, along-some, frames}
 use Rattle.shuffles.proofs.Demand3.{Like, like-itself, stays, plan-like, errors-are, laws}
 use Rattle.shuffles.proofs.Touched.{changedPlaces, touchedPlaces, changed-pages, touched-pages}
@@ -94,14 +95,15 @@ spared s₀ s js h = frames (Like s₀) (length (s₀ .flash .words)) (planAt s�
 -- After a list whose plans are those at s.
 abbrev pub errorsBy : State → List Job → Errors → Errors
 errorsBy s [] e = e
-errorsBy s (j ∷ js) e = errorsBy s js (errorsAfter (planAt s j) (j .operation .address) e)
+errorsBy s (j ∷ js) e = errorsBy s js (errorsAfter (s .controller .setup) (j .operation) (planAt s j) e)
 
 -- From a state like s₀, a list leaves the record that its plans at s₀ do.
 pub errors-end : (s₀ s : State) (js : List Job) → Like s₀ s
     → endOf s js .controller .errors ≡ errorsBy s₀ js (s .controller .errors)
+unfolding viewOf
 errors-end s₀ s [] h = refl
 errors-end s₀ s (j ∷ js) h =
     errors-end s₀ (after s j) js (stays s₀ s j h)
     ∙ ap (errorsBy s₀ js)
     (errors-are s j
-    ∙ ap (λ (p : Plan). errorsAfter p (j .operation .address) (s .controller .errors)) (plan-like s₀ s j h))
+    ∙ ap₂ (λ (t : Setup) (p : Plan). errorsAfter t (j .operation) p (s .controller .errors)) (ap (λ (v : View). v .setup) (h .view)) (plan-like s₀ s j h))

@@ -37,7 +37,7 @@ given-is s j = ap givenOf (closed-form (s .controller) (s .flash) (j .operation)
 
 -- The error record after a job.
 pub errors-are : (s : State) (j : Job) → after s j .controller .errors
-    ≡ errorsAfter (planAt s j) (j .operation .address) (s .controller .errors)
+    ≡ errorsAfter (s .controller .setup) (j .operation) (planAt s j) (s .controller .errors)
 errors-are s j =
     ap (λ (t : State). t .controller .errors) (after-is s j)
     ∙ ap (λ (c : Controller). c .errors) (plan-controller (s .controller) (s .flash) (j .operation) (j .buffer) (planAt s j))
@@ -65,7 +65,7 @@ laws s₀ = record {
       (plan-same (s .controller) (t .controller) (s .flash) (t .flash) (j .operation) (j .buffer) (planAt s₀ j)
       (h .long ∙ sym (k .long)) a);
   records = λ s j h. rw (errors-are s j, ← plan-like s₀ s j h)
-      (kinds-after (planAt s j) (j .operation .address) (s .controller .errors));
+      (kinds-after (s .controller .setup) (j .operation) (planAt s j) (s .controller .errors));
 }
 
 -- ---- the theorem

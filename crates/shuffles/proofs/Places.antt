@@ -1,25 +1,28 @@
 -- What a plan does at its places: it changes only the pages of its places, and what it gives and leaves there depends on those
 -- pages alone. Assumes nothing.
-use Prim.Native.Nat.{ℕ, _+_}
+use Prim.Native.Nat.{ℕ, suc, _+_, _-_}
+use native.Mathlib.Nat.{sub-zero}
+use native.Mathlib.Omega.{arith}
 use mathlib.Core.Path.{_≡_, refl, sym, ap, ap₂, _∙_}
 use mathlib.Core.Bool.{Bool, true, false, _||_, or-true, false≢true}
 use mathlib.Core.List.{List, [], _∷_, _++_}
-use lib.Dec.{eqb}
-use lib.ListN.{length, drop, length-set}
+use lib.Dec.{ltb, eqb}
+use lib.ListN.{length, take, drop, length-set}
 use lib.Seq.{getD-set-other}
-use borrow.Author.Tests.{eqb-false, eq-eqb}
+use borrow.Author.Tests.{eqb-false, eq-eqb, ltb-true, ltb-false}
 use Rattle.model.specs.Geometry.{imagePageOf}
 use Rattle.model.specs.Words.{changedBits}
 use Rattle.model.specs.State.{Flash, stored, withWord}
 use Rattle.model.specs.Refusals.{noDecider}
-use Rattle.model.specs.Steps.{delivered, countedBits}
+use Rattle.model.specs.Steps.{delivered, readWord, countedBits}
+use Rattle.model.specs.Whole.{leaving}
 use Rattle.model.specs.declared.ImagePage.{ImagePage}
 use Rattle.model.specs.declared.BusWord.{BusWord}
 use Rattle.model.specs.declared.Operation.{Operation}
 use Rattle.model.specs.declared.Setup.{Setup}
 use Rattle.model.specs.declared.Controller.{Controller}
-use Rattle.model.proofs.Bool.{or-left, or-right}
-use Rattle.plans.specs.Plan.{Plan, Refused, Recorded, Blank, Reads, Programs, Erases, deliveredAt, stored-all, changed-all, programming, erasing, performed}
+use Rattle.model.proofs.Bool.{or-left, or-right, by-test}
+use Rattle.plans.specs.Plan.{Plan, Refused, Recorded, Reads, Programs, Erases, deliveredAt, stored-all, changed-all, programming, erasing, performed}
 use Rattle.shuffles.specs.Shuffle.{givenOf, hasOne, changesPage, touchesPage}
 use Rattle.shuffles.proofs.Pages.{Off, Agree, AsLong, same-set}
 
@@ -53,13 +56,21 @@ among-head P p ps h = h (imagePageOf p) (rw (eq-eqb (imagePageOf p .0) (imagePag
 among-tail : (P : ImagePage → Bool) (p : BusWord) (ps : List BusWord) → Among (p ∷ ps) P → Among ps P
 among-tail P p ps h q e = h q (rw e (or-true (eqb (imagePageOf p .0) (q .0))))
 
--- Where two flashes agree on those pages, a read delivers the same words,
-delivered-same : (P : ImagePage → Bool) (ps : List BusWord) (f g : Flash) → Among ps P → Agree P f g
-    → deliveredAt f ps ≡ deliveredAt g ps
-unfolding delivered
-delivered-same P [] f g h a = refl
-delivered-same P (p ∷ ps) f g h a =
-    ap₂ {C = List ℕ} (λ x xs. x ∷ xs) (a p (among-head P p ps h)) (delivered-same P ps f g (among-tail P p ps h) a)
+-- Where two flashes agree on the pages of its true words that are left, a read delivers the same from word k on,
+delivered-same : (P : ImagePage → Bool) (readable k : ℕ) (ps : List BusWord) (f g : Flash) → Among (take (readable - k) ps) P → Agree P f g
+    → deliveredAt f readable k ps ≡ deliveredAt g readable k ps
+unfolding delivered readWord
+delivered-same P readable k [] f g h a = refl
+delivered-same P readable k (p ∷ ps) f g h a =
+    by-test (ltb k readable)
+    (λ t.
+    let left : readable - k ≡ suc (readable - (k + 1)) = omega (arith, ltb-true k readable t) in
+    let rest : List BusWord = take (readable - (k + 1)) ps in
+    let among : Among (p ∷ rest) P = rw left at h in
+    rw (t, a p (among-head P p rest among), delivered-same P readable (k + 1) ps f g (among-tail P p rest among) a))
+    (λ t.
+    let none : readable - (k + 1) ≡ 0 = omega (arith, ltb-false k readable t) in
+    rw (t, delivered-same P readable (k + 1) ps f g (rw none (λ q e. absurd (false≢true e))) a))
 
 -- and stored words change as many bits, and leave the same.
 stored-same : (P : ImagePage → Bool) (new : ℕ → ℕ → ℕ) (k : ℕ) (ps : List BusWord) (s t : Setup) (f g : Flash) → AsLong f g
@@ -83,8 +94,7 @@ pub plan-long : (c : Controller) (f : Flash) (o : Operation) (b : List ℕ) (p :
 unfolding performed
 plan-long c f o b (Refused a) = refl
 plan-long c f o b (Recorded a) = refl
-plan-long c f o b (Blank a n) = refl
-plan-long c f o b (Reads ps) = refl
+plan-long c f o b (Reads a readable ps) = refl
 plan-long c f o b (Programs ps) = stored-long (programming b) 0 ps f
 plan-long c f o b (Erases ps) = stored-long erasing 0 ps f
 
@@ -93,8 +103,7 @@ pub plan-off : (c : Controller) (f : Flash) (o : Operation) (b : List ℕ) (p : 
 unfolding performed
 plan-off c f o b (Refused a) w h = refl
 plan-off c f o b (Recorded a) w h = refl
-plan-off c f o b (Blank a n) w h = refl
-plan-off c f o b (Reads ps) w h = refl
+plan-off c f o b (Reads a readable ps) w h = refl
 plan-off c f o b (Programs ps) w h = stored-off (programming b) 0 ps f w h
 plan-off c f o b (Erases ps) w h = stored-off erasing 0 ps f w h
 
@@ -109,10 +118,9 @@ pub plan-same : (c d : Controller) (f g : Flash) (o : Operation) (b : List ℕ) 
 unfolding performed
 plan-same c d f g o b (Refused a) e h = (refl, on-none f g)
 plan-same c d f g o b (Recorded a) e h = (refl, on-none f g)
-plan-same c d f g o b (Blank a n) e h = (refl, on-none f g)
-plan-same c d f g o b (Reads ps) e h = (
-  ap (λ (ws : List ℕ). record { answer = 0; decider = noDecider; words = ws ++ drop (length ps) b; bits = 0 })
-      (delivered-same (hasOne ps) ps f g (λ q t. t) (λ w t. h w (ap (λ (x : Bool). x || false) t))),
+plan-same c d f g o b (Reads a readable ps) e h = (
+  ap (λ (ws : List ℕ). givenOf (leaving c a 0 f (ws ++ drop (length ps) b)))
+      (delivered-same (hasOne (take readable ps)) readable 0 ps f g (rw sub-zero (λ q t. t)) (λ w t. h w (ap (λ (x : Bool). x || false) t))),
   on-none f g,
 )
 plan-same c d f g o b (Programs ps) e h =

@@ -8,7 +8,7 @@ use lib.Dec.{eqb}
 use Rattle.model.specs.Queue.{emptyQueue, queueOf, isEmpty}
 use Rattle.model.specs.State.{Flash, withErrors, withQueues, withReads, withPrograms}
 use Rattle.model.specs.Refusals.{numberOf, accepts}
-use Rattle.model.specs.Errors.{isRecorded, recorded}
+use Rattle.model.specs.Errors.{isRecorded, recorded, errorAddress}
 use Rattle.model.specs.Valid.{errorsFit, bothEmpty, validWith}
 use Rattle.model.specs.Whole.{WholeLeaves, wholeAnswer}
 use Rattle.model.specs.declared.ByteAddress.{ByteAddress}
@@ -23,7 +23,7 @@ use Rattle.model.proofs.Flashes.{same-fits}
 use Rattle.model.proofs.Valid.{valid-parts}
 use Rattle.model.proofs.Starting.{recorded-fits}
 use Rattle.model.proofs.Free.{whole-free, free-again}
-use Rattle.plans.specs.Plan.{Plan, Refused, Recorded, Blank, Reads, Programs, Erases, planOf, performed}
+use Rattle.plans.specs.Plan.{Plan, Refused, Recorded, Reads, Programs, Erases, planOf, performed}
 use Rattle.shuffles.specs.Shuffle.{Kinds, kindsIn, union}
 use Rattle.shuffles.proofs.Union.{noKinds, union-none}
 use Rattle.shuffles.proofs.Pages.{AsLong}
@@ -58,29 +58,26 @@ refused-plan c f o b h = rw h
 abbrev pub queuesAfter : Plan → Queues → Queues
 queuesAfter (Refused a) q = q
 queuesAfter (Recorded a) q = q
-queuesAfter (Blank a n) q = withReads q emptyQueue
-queuesAfter (Reads ps) q = withReads q emptyQueue
+queuesAfter (Reads a readable ps) q = withReads q emptyQueue
 queuesAfter (Programs ps) q = withPrograms q emptyQueue
 queuesAfter (Erases ps) q = q
 
 -- and the error record.
-abbrev pub errorsAfter : Plan → ByteAddress → Errors → Errors
-errorsAfter (Refused a) at e = e
-errorsAfter (Recorded a) at e = recorded (numberOf a) at e
-errorsAfter (Blank a n) at e = recorded (numberOf a) at e
-errorsAfter (Reads ps) at e = e
-errorsAfter (Programs ps) at e = e
-errorsAfter (Erases ps) at e = e
+abbrev pub errorsAfter : Setup → Operation → Plan → Errors → Errors
+errorsAfter s o (Refused a) e = e
+errorsAfter s o (Recorded a) e = recorded (numberOf a) (errorAddress s (numberOf a) o) e
+errorsAfter s o (Reads a readable ps) e = recorded (numberOf a) (errorAddress s (numberOf a) o) e
+errorsAfter s o (Programs ps) e = e
+errorsAfter s o (Erases ps) e = e
 
 -- Nothing else of the controller changes.
 pub plan-controller : (c : Controller) (f : Flash) (o : Operation) (b : List ℕ) (p : Plan)
     → performed c f o b p .result .controller
-    ≡ withErrors (withQueues c (queuesAfter p (c .queues))) (errorsAfter p (o .address) (c .errors))
+    ≡ withErrors (withQueues c (queuesAfter p (c .queues))) (errorsAfter (c .setup) o p (c .errors))
 unfolding performed
 plan-controller c f o b (Refused a) = refl
 plan-controller c f o b (Recorded a) = refl
-plan-controller c f o b (Blank a n) = refl
-plan-controller c f o b (Reads ps) = refl
+plan-controller c f o b (Reads a readable ps) = refl
 plan-controller c f o b (Programs ps) = refl
 plan-controller c f o b (Erases ps) = refl
 
@@ -89,32 +86,30 @@ queues-empty : (p : Plan) (q : Queues) → bothEmpty q ≡ true → bothEmpty (q
 unfolding queueOf
 queues-empty (Refused a) q h = h
 queues-empty (Recorded a) q h = h
-queues-empty (Blank a n) q h = and-right (isEmpty (q .reads)) _ h
-queues-empty (Reads ps) q h = and-right (isEmpty (q .reads)) _ h
+queues-empty (Reads a readable ps) q h = and-right (isEmpty (q .reads)) _ h
 queues-empty (Programs ps) q h = rw (and-left (isEmpty (q .reads)) _ h)
 queues-empty (Erases ps) q h = h
 
 -- A record that fits still does.
-errors-fit : (p : Plan) (at : ByteAddress) (e : Errors) → errorsFit e ≡ true → errorsFit (errorsAfter p at e) ≡ true
-errors-fit (Refused a) at e h = h
-errors-fit (Recorded a) at e h = recorded-fits (numberOf a) at e h
-errors-fit (Blank a n) at e h = recorded-fits (numberOf a) at e h
-errors-fit (Reads ps) at e h = h
-errors-fit (Programs ps) at e h = h
-errors-fit (Erases ps) at e h = h
+errors-fit : (s : Setup) (o : Operation) (p : Plan) (e : Errors) → errorsFit e ≡ true → errorsFit (errorsAfter s o p e) ≡ true
+errors-fit s o (Refused a) e h = h
+errors-fit s o (Recorded a) e h = recorded-fits (numberOf a) (errorAddress s (numberOf a) o) e h
+errors-fit s o (Reads a readable ps) e h = recorded-fits (numberOf a) (errorAddress s (numberOf a) o) e h
+errors-fit s o (Programs ps) e h = h
+errors-fit s o (Erases ps) e h = h
 
 -- ---- checks 1 to 4 answer after a plan as they did before it
 
 -- Where they accept,
-still-accepted : (c : Controller) (f g : Flash) (p : Plan) (at : ByteAddress) → AsLong g f → accepts (wholeAnswer c f) ≡ true
-    → wholeAnswer (withErrors (withQueues c (queuesAfter p (c .queues))) (errorsAfter p at (c .errors))) g ≡ wholeAnswer c f
+still-accepted : (c : Controller) (f g : Flash) (o : Operation) (p : Plan) → AsLong g f → accepts (wholeAnswer c f) ≡ true
+    → wholeAnswer (withErrors (withQueues c (queuesAfter p (c .queues))) (errorsAfter (c .setup) o p (c .errors))) g ≡ wholeAnswer c f
 unfolding wholeAnswer validWith
-still-accepted c f g p at e h =
+still-accepted c f g o p e h =
     let v = whole-free c f h in
     let empty = queues-empty p (c .queues) (rw (v .reads) (v .programs)) in
-    let fits = errors-fit p at (c .errors) (valid-parts c (v .fits) .errors) in
+    let fits = errors-fit (c .setup) o p (c .errors) (valid-parts c (v .fits) .errors) in
     rw (
-      free-again c (errorsAfter p at (c .errors)) (queuesAfter p (c .queues)) v fits empty,
+      free-again c (errorsAfter (c .setup) o p (c .errors)) (queuesAfter p (c .queues)) v fits empty,
       v .fits,
       same-fits (c .setup .pages) g f e,
       empty,
@@ -135,7 +130,7 @@ view-stays c f o b = by-test (accepts (wholeAnswer c f)) yes no
     yes h =
         rw (plan-controller c f o b (planOf c f o b))
         (ap (λ (a : Answer). record { setup = c .setup; answer = a })
-        (still-accepted c f (leaves .flash) (planOf c f o b) (o .address) (plan-long c f o b (planOf c f o b)) h))
+        (still-accepted c f (leaves .flash) o (planOf c f o b) (plan-long c f o b (planOf c f o b)) h))
 
     no : accepts (wholeAnswer c f) ≡ false → viewOf (leaves .result .controller) (leaves .flash) ≡ viewOf c f
     no h = rw (refused-plan c f o b h)
@@ -155,8 +150,7 @@ kindIs a = record {
 abbrev pub kindsBy : Plan → Kinds
 kindsBy (Refused a) = noKinds
 kindsBy (Recorded a) = kindIs a
-kindsBy (Blank a n) = kindIs a
-kindsBy (Reads ps) = noKinds
+kindsBy (Reads a readable ps) = kindIs a
 kindsBy (Programs ps) = noKinds
 kindsBy (Erases ps) = noKinds
 
@@ -176,10 +170,9 @@ kind-joins a at e = by-test (isRecorded (numberOf a)) (λ t. rw t) other
         rw (t, five, seven, eight, nine) (union-none (kindsIn e))
 
 -- is what it adds to the recorded kinds.
-pub kinds-after : (p : Plan) (at : ByteAddress) (e : Errors) → kindsIn (errorsAfter p at e) ≡ union (kindsIn e) (kindsBy p)
-kinds-after (Refused a) at e = union-none (kindsIn e)
-kinds-after (Recorded a) at e = kind-joins a at e
-kinds-after (Blank a n) at e = kind-joins a at e
-kinds-after (Reads ps) at e = union-none (kindsIn e)
-kinds-after (Programs ps) at e = union-none (kindsIn e)
-kinds-after (Erases ps) at e = union-none (kindsIn e)
+pub kinds-after : (s : Setup) (o : Operation) (p : Plan) (e : Errors) → kindsIn (errorsAfter s o p e) ≡ union (kindsIn e) (kindsBy p)
+kinds-after s o (Refused a) e = union-none (kindsIn e)
+kinds-after s o (Recorded a) e = kind-joins a (errorAddress s (numberOf a) o) e
+kinds-after s o (Reads a readable ps) e = kind-joins a (errorAddress s (numberOf a) o) e
+kinds-after s o (Programs ps) e = union-none (kindsIn e)
+kinds-after s o (Erases ps) e = union-none (kindsIn e)

@@ -1,22 +1,24 @@
--- Demand 3: two lists of whole operations that keep out of each other's pages, in any shuffle. (01, 'Shuffles, for demand 3')
+-- Demand 3: two lists of whole operations that keep out of each other's pages, in any shuffle. (01, 'Shuffles, for demand 3';
+-- 02, L3)
 use Prim.Native.Nat.{ℕ, _<_}
 use mathlib.Core.Path.{_≡_}
 use mathlib.Core.Bool.{Bool, true, false, _&&_, _||_, not}
 use mathlib.Core.List.{List, [], _∷_}
 use lib.Dec.{eqb}
-use lib.ListN.{length}
-use Rattle.model.specs.Geometry.{imagePageOf}
+use lib.ListN.{length, take}
+use Rattle.model.specs.Geometry.{pageOf, imagePageOf}
 use Rattle.model.specs.Kinds.{isRead}
-use Rattle.model.specs.Places.{totalWords, placeOf}
+use Rattle.model.specs.Places.{spanAddress, totalWords, placeOf}
 pub use Rattle.model.specs.State.{State, wordsOf}
-use Rattle.model.specs.Refusals.{numberOf, noDecider, reported}
+use Rattle.model.specs.Rights.{firstDenied}
+use Rattle.model.specs.Refusals.{numberOf, noDecider, reported, isDeniedRead}
 use Rattle.model.specs.Valid.{validWith}
 use Rattle.model.specs.Whole.{WholeLeaves, whole}
 use Rattle.model.specs.declared.ImagePage.{ImagePage}
 use Rattle.model.specs.declared.BusWord.{BusWord}
 use Rattle.model.specs.declared.Errors.{Errors}
 use Rattle.model.specs.declared.Operation.{Operation}
-use Rattle.plans.specs.Plan.{Plan, Refused, Recorded, Blank, Reads, Programs, Erases, placesOf, planOf}
+use Rattle.plans.specs.Plan.{Plan, Refused, Recorded, Reads, Programs, Erases, placesOf, planOf}
 
 -- ---- lists of whole operations
 
@@ -78,12 +80,12 @@ hasOne [] q = false
 hasOne (p ∷ ps) q = eqb (imagePageOf p .0) (q .0) || hasOne ps q
 
 -- 'An operation that starts reads or programs each page with one of its n words, or erases each page it covers. One that
--- doesn't start, or a blank read, does this to no page.' The pages that it reads,
+-- doesn't start does this to no page'; a denied read 'reads only its pages before the first denied one' (02, L3), which are those
+-- of its true words. The pages that it reads,
 abbrev pub readsPage : Plan → ImagePage → Bool
 readsPage (Refused a) q = false
 readsPage (Recorded a) q = false
-readsPage (Blank a n) q = false
-readsPage (Reads ps) q = hasOne ps q
+readsPage (Reads a readable ps) q = hasOne (take readable ps) q
 readsPage (Programs ps) q = false
 readsPage (Erases ps) q = false
 
@@ -91,8 +93,7 @@ readsPage (Erases ps) q = false
 abbrev pub changesPage : Plan → ImagePage → Bool
 changesPage (Refused a) q = false
 changesPage (Recorded a) q = false
-changesPage (Blank a n) q = false
-changesPage (Reads ps) q = false
+changesPage (Reads a readable ps) q = false
 changesPage (Programs ps) q = hasOne ps q
 changesPage (Erases ps) q = hasOne ps q
 
@@ -106,9 +107,19 @@ planAt s j = planOf (s .controller) (s .flash) (j .operation) (j .buffer)
 
 -- That these are the pages that the sentence names, in the words of answers and places:
 pub record RightPages (s : State) (j : Job) (q : ImagePage) : Type 0 where
-  -- a refused operation (the blank read is refused with 9) touches no page,
-  pub refused : (given s j .answer ≡ 0 → ⊥) → touchesPage (planAt s j) q ≡ false
-  -- a read that starts reads the pages with one of its words, and another operation programs or erases them;
+  -- a refused operation that is no denied read touches no page,
+  pub refused : (given s j .answer ≡ 0 → ⊥) → isDeniedRead (j .operation) (given s j .answer) ≡ false
+      → touchesPage (planAt s j) q ≡ false
+  -- a denied read changes none, and reads the pages before the first denied one with one of its words;
+  pub denied-changes : isDeniedRead (j .operation) (given s j .answer) ≡ true → changesPage (planAt s j) q ≡ false
+  pub denied-each : isDeniedRead (j .operation) (given s j .answer) ≡ true → (k : ℕ) → k < j .operation .count
+      → pageOf (spanAddress (j .operation) k) .0 < firstDenied (s .controller .setup) (j .operation) .0
+      → imagePageOf (placeOf (s .controller .setup .pages) (j .operation) k) ≡ q → readsPage (planAt s j) q ≡ true
+  pub denied-only : isDeniedRead (j .operation) (given s j .answer) ≡ true → readsPage (planAt s j) q ≡ true
+      → (k : ℕ) × (k < j .operation .count)
+      × (pageOf (spanAddress (j .operation) k) .0 < firstDenied (s .controller .setup) (j .operation) .0)
+      × (imagePageOf (placeOf (s .controller .setup .pages) (j .operation) k) ≡ q)
+  -- an accepted read reads the pages with one of its words, and another operation programs or erases them;
   pub reads : given s j .answer ≡ 0
       → readsPage (planAt s j) q ≡ (isRead (j .operation) && hasOne (placesOf (s .controller .setup .pages) (j .operation)) q)
   pub changes : given s j .answer ≡ 0

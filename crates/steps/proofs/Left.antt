@@ -4,7 +4,7 @@ use native.Mathlib.Omega.{arith}
 use mathlib.Core.Path.{_≡_, refl, ap, sym, subst, _∙_}
 use mathlib.Core.Bool.{Bool, true, false, cond}
 use mathlib.Core.List.{List}
-use lib.Dec.{eqb, ltb}
+use lib.Dec.{eqb}
 use borrow.Author.Tests.{eqb-false, leb-false}
 use lib.ListN.{length, getD}
 use Rattle.model.specs.State.{Flash, Leaves, withWord, stored, operationOf, movedOf}
@@ -14,7 +14,7 @@ use Rattle.model.specs.Refusals.{accepts, readyAnswer, numberOf}
 use Rattle.model.specs.Valid.{valid, validWith}
 use Rattle.model.specs.Places.{totalWords, placeOf}
 use Rattle.model.specs.Checks.{outOfRange}
-use Rattle.model.specs.Steps.{progressed, advance, countedBits, delivered, step, stalls}
+use Rattle.model.specs.Steps.{progressed, advance, countedBits, readWord, step, stalls}
 use Rattle.model.specs.declared.Answer.{Answer}
 use Rattle.model.specs.declared.Answer.the-variants.{Accepted, Unexpected}
 use Rattle.model.specs.declared.Stepped.{Stepped}
@@ -92,7 +92,7 @@ module _ (s : List ℕ) (f : Flash) (o : Operation) (k : ℕ) where
   place = placeOf (getD s pagesAt 0) o k
 
   abbrev word : ℕ → ℕ
-  word readable = cond (ltb k readable) (delivered f place) allOnes
+  word readable = readWord f readable k place
 
   pub left-read : (readable : ℕ) → Moves s f (Read o k readable)
       → stepLeft s (advance (standsFor s) f (Read o k readable))

@@ -1,20 +1,14 @@
 // Step on registers: one word of the operation in progress moves.
 ghost use mathlib.Core.Path.{_≡_};
-ghost use mathlib.Core.Bool.{cond};
 ghost use Prim.Native.Nat.{_+_, _<_};
-ghost use lib.Dec.{ltb};
-ghost use lib.ListN.{length};
 ghost use Rattle.model.specs.State.{flash};
 ghost use Rattle.model.specs.Refusals.{numberOf};
-ghost use Rattle.model.specs.Words.{allOnes};
-ghost use Rattle.model.specs.Steps.{stalls, delivered, advance};
+ghost use Rattle.model.specs.Steps.{stalls, advance};
 ghost use Rattle.registers.specs.Registers.{standsFor};
 ghost use Rattle.calls.specs.Calls.{movementNumber, stepLeft, stepIn};
 ghost use Rattle.steps.specs.Stepping.{Moves, toldMoved, registersMoved};
 use calls::ToldStep;
 use model::Answer;
-use model::BusWord;
-use model::ERASED;
 use model::Movement;
 use model::Operation;
 use model::Progress;
@@ -68,18 +62,6 @@ pub fn stalls(s: &Registers, w: Work) -> bool
     }
 }
 
-// The word that a read delivers next: the stored one, or ones where it is not readable.
-fn read_word(image: &[u32], place: BusWord, k: u32, readable: u32) -> u32
-    requires { ⌜ place .0 < length (now image) ⌝ }
-    ensures { λ r. ⌜ r ≡ cond (ltb k readable) (delivered (flash (now (image .entry))) place) allOnes ⌝ }
-{
-    let at = place.0 as usize;
-    if k < readable {
-        return image[at];
-    }
-    ERASED
-}
-
 // Of a read, the next word goes to the read queue.
 fn advance_read(s: &mut Registers, image: &[u32], op: Operation, k: u32, readable: u32) -> ToldStep
     requires { ⌜ Moves (now s) (flash (now image)) (Work.Read op k readable) ⌝ }
@@ -88,7 +70,7 @@ fn advance_read(s: &mut Registers, image: &[u32], op: Operation, k: u32, readabl
     let d = registers::pages(s);
     let n = places::total_words(d, op);
     let place = places::place_of(d, op, k);
-    let word = read_word(image, place, k, readable);
+    let word = words::read_word(image, place, k, readable);
     let reads = registers::reads(s);
     registers::put_reads(s, queue::push(reads, word));
     moved(s, n, k, 0)

@@ -2,37 +2,25 @@
 ghost use mathlib.Core.Path.{_≡_};
 ghost use mathlib.Core.List.{_++_};
 ghost use Prim.Native.Nat.{_≤_};
-ghost use lib.ListN.{length, drop, replicate};
+ghost use lib.ListN.{length, drop};
 ghost use Rattle.model.specs.State.{flash};
-ghost use Rattle.model.specs.Words.{allOnes};
 ghost use Rattle.model.specs.Places.{totalWords};
 ghost use Rattle.plans.specs.Plan.{placesOf, deliveredAt, stored-all, changed-all, programming, erasing};
 ghost use Rattle.registers.specs.Registers.{setupOf};
 ghost use Rattle.transfers.specs.Placed.{Placed};
-use model::ERASED;
 use model::Operation;
 use registers::Registers;
 
-// A read puts the stored words into the first places of the buffer.
-pub fn read(d: u32, image: &[u32], o: Operation, buffer: &mut [u32])
+// A read puts its words into the first places of the buffer.
+pub fn read(d: u32, image: &[u32], o: Operation, buffer: &mut [u32], readable: u32)
     requires { ⌜ Placed d o (flash (now image)) × (totalWords d o ≤ length (now buffer)) ⌝ }
-    ensures { λ _. ⌜ now (buffer .exit) ≡ deliveredAt (flash (now (image .entry))) (placesOf d o) ++ drop (length (placesOf d o)) (now (buffer .entry)) ⌝ }
+    ensures { λ _. ⌜ now (buffer .exit) ≡ deliveredAt (flash (now (image .entry))) readable 0 (placesOf d o) ++ drop (length (placesOf d o)) (now (buffer .entry)) ⌝ }
 {
     let words = places::total_words(d, o);
     for k in 0..words {
         let place = places::place_of(d, o, k as u32);
-        let word = image[place.0 as usize];
+        let word = words::read_word(image, place, k as u32, readable);
         buffer[k] = word;
-    }
-}
-
-// A blank read puts ones there.
-pub fn blank(buffer: &mut [u32], count: usize)
-    requires { ⌜ count ≤ length (now buffer) ⌝ }
-    ensures { λ _. ⌜ now (buffer .exit) ≡ replicate count allOnes ++ drop count (now (buffer .entry)) ⌝ }
-{
-    for k in 0..count {
-        buffer[k] = ERASED;
     }
 }
 

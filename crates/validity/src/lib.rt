@@ -81,13 +81,9 @@ fn work_fits(s: &Registers, w: Work) -> bool
             moved,
             readable,
         } => {
-            let kind = places::is_read(op);
             let left = (moved as usize) < places::total_words(d, op);
-            let answer = lookups::operation_answer(s, op);
-            let accepted = refusals::accepts(answer);
-            let denied = refusals::is_denied(answer);
-            let same = readable == lookups::readable_by(answer, op);
-            kind & (left & ((accepted | denied) & (same & none)))
+            let fits = lookups::read_fits(s, op, readable);
+            fits & (left & none)
         }
         Work::Program { op, moved } => {
             let kind = places::is_program(op);

@@ -23,7 +23,7 @@ use model::Page;
 use model::PageSetting;
 use registers::Registers;
 
-const PROGRAM_RIGHT: u8 = 2;
+pub const PROGRAM_RIGHT: u8 = 2;
 
 // ---- data pages
 
@@ -82,7 +82,7 @@ fn data_pages(s: &Registers) {
 // ---- information pages
 
 // A page of bank 0 and type 0.
-fn set_page(s: &mut Registers, page: u32, on: bool) {
+pub fn set_page(s: &mut Registers, page: u32, on: bool) {
     let setting = PageSetting {
         on,
         rights: ALL_RIGHTS,
@@ -96,7 +96,7 @@ fn set_page(s: &mut Registers, page: u32, on: bool) {
     answer_line(settings::set_info(s, 0, 0, page, setting));
 }
 
-fn provision_off(s: &mut Registers) {
+pub fn provision_off(s: &mut Registers) {
     let inputs = Inputs {
         provision: false,
         locked: false,

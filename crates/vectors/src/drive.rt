@@ -27,7 +27,7 @@ fn moves(movement: u32) -> bool {
 }
 
 // The word read, or the last one before it if there is none to pop.
-fn popped(s: &mut Registers, last: u32) -> u32 {
+pub fn popped(s: &mut Registers, last: u32) -> u32 {
     let r = queueing::pop(s);
     if r.answer == 0 { r.word } else { last }
 }

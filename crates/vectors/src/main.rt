@@ -1,8 +1,10 @@
-// The bench sheet of document 01 through the public calls, in the sheet's order, one line a case; then rounds (document 02, L1)
-// and who denies a call (L2).
-// D = 16 and all rights given unless a line says otherwise. Images start as ones, and zeros are programmed.
+// The bench sheet of document 01 through the public calls, in the sheet's order, one line a case; then rounds (document 02, L1),
+// who denies a call (L2), and what a denied read delivers (L3).
+// D = 16 and all rights given unless a line says otherwise. Images start as ones, and zeros are programmed; denied reads are made
+// on an image of zeros.
 mod cases;
 mod deciders;
+mod denied_reads;
 mod drive;
 mod erases;
 mod given;
@@ -39,4 +41,5 @@ fn main() {
     no_kind(&s);
     turns::turns(&s);
     deciders::deciders(&s);
+    denied_reads::denied_reads(&s);
 }

@@ -4,24 +4,25 @@ use mathlib.Core.Path.{_≡_, refl, ap, sym, subst, _∙_}
 use mathlib.Core.Bool.{true, false, _&&_, _||_, not}
 use mathlib.Core.List.{List, _++_}
 use lib.Dec.{eqb}
-use lib.ListN.{length, drop, replicate}
-use Rattle.model.specs.Words.{allOnes}
+use lib.ListN.{length, drop}
 use Rattle.model.specs.Queue.{emptyQueue, queueOf}
 use Rattle.model.specs.State.{Flash, isBusy}
 use Rattle.model.specs.Refusals.{numberOf, accepts, check, readyAnswer}
 use Rattle.model.specs.Checks.{operationAnswer}
-use Rattle.model.specs.Errors.{isRecorded, recorded}
+use Rattle.model.specs.Errors.{isRecorded, recorded, errorAddress}
 use Rattle.model.specs.Valid.{bothEmpty, valid, validWith}
 use Rattle.model.specs.Whole.{wholeAnswer, shortBuffer, whole, leaving}
 use Rattle.model.specs.declared.BusWord.{BusWord}
+use Rattle.model.specs.declared.Errors.{Errors}
 use Rattle.model.specs.declared.Operation.{Operation}
 use Rattle.model.specs.declared.Controller.{Controller}
 use Rattle.model.specs.declared.Answer.{Answer}
 use Rattle.model.specs.declared.Answer.the-variants.{Accepted, Busy, ShortBuffer}
-use Rattle.model.proofs.Answers.{unrecorded, recorded-if-refused, both-accept}
+use Rattle.model.proofs.Answers.{recorded-if-refused, both-accept}
 use Rattle.model.proofs.Moving.{with-valid}
 use Rattle.model.proofs.Accepting.{ready-valid}
-use Rattle.plans.specs.Plan.{Reads, Programs, Erases, Blank, Recorded, planOf, planAnswered, performed, deliveredAt, stored-all, changed-all, programming, erasing}
+use Rattle.plans.specs.Plan.{Reads, Programs, Erases, Recorded, planOf, planAnswered, performed, deliveredAt, stored-all, changed-all, programming, erasing}
+use Rattle.plans.proofs.Cases.{early-unrecorded}
 use Rattle.plans.proofs.ClosedFormProof.{closed-form}
 use Rattle.registers.specs.Layout.{readsFrom, programsFrom}
 use Rattle.registers.specs.Registers.{encoded, setupOf, standsFor, decode, queueAt, errorsAt, progressAt, putQueue, putErrors}
@@ -50,11 +51,6 @@ module _ (s : List ℕ) (f : Flash) (a : Answer) (asked : a ≡ readyAnswer (val
       let same = taken-stands s (with-valid (decode s) f (ready-valid (validWith (decode s) f) (decode s .phase) passed)) in
       rw passed (ap (λ (c : Controller). check (isBusy (c .progress) || not (bothEmpty (c .queues))) Busy) (sym same))
 
--- No refusal of 1 to 4 is recorded.
-whole-unrecorded : (c : Controller) (f : Flash) → isRecorded (numberOf (wholeAnswer c f)) ≡ false
-unfolding wholeAnswer
-whole-unrecorded c f = unrecorded (validWith c f) (c .phase) (isBusy (c .progress) || not (bothEmpty (c .queues)))
-
 -- An empty queue has its 16 places.
 empty-places : length (emptyQueue .words) ≡ 16
 unfolding queueOf
@@ -70,7 +66,7 @@ module _ (s : List ℕ) (f : Flash) (o : Operation) (b : List ℕ) where
   run-refused a e h =
       let refused : accepts (wholeAnswer (decode s) f) ≡ false = rw e at h in
       let stops : whole (decode s) f o b ≡ leaving (decode s) (wholeAnswer (decode s) f) 0 f b = closed-form (decode s) f o b ∙ rw refused in
-      rw (stops, e, refused, whole-unrecorded (decode s) f)
+      rw (stops, e, refused, early-unrecorded (decode s) f)
 
   module _ (free : accepts (wholeAnswer (decode s) f) ≡ true) where
     -- or by 6, it changes nothing.
@@ -96,10 +92,10 @@ module _ (s : List ℕ) (f : Flash) (o : Operation) (b : List ℕ) where
 
     -- Otherwise the answer of 5, 7, 8 and 9 decides.
     pub run-answered : shortBuffer o b ≡ false
-        → wholeLeft s (performed (standsFor s) f o b (planAnswered (setupOf s .pages) o (operationAnswer (setupOf s) o))) ≡ wholeIn s f o b
+        → wholeLeft s (performed (standsFor s) f o b (planAnswered (setupOf s) o (operationAnswer (setupOf s) o))) ≡ wholeIn s f o b
     unfolding wholeIn planOf standsFor
     run-answered h =
-        let plan : whole (standsFor s) f o b ≡ performed (standsFor s) f o b (planAnswered (setupOf s .pages) o (operationAnswer (setupOf s) o)) =
+        let plan : whole (standsFor s) f o b ≡ performed (standsFor s) f o b (planAnswered (setupOf s) o (operationAnswer (setupOf s) o)) =
         closed-form (standsFor s) f o b ∙ rw (stands, h) in
         ap (wholeLeft s) (sym plan) ∙ ap (λ (c : Controller). wholeLeft s (whole c f o b)) (sym same)
 
@@ -107,11 +103,16 @@ module _ (s : List ℕ) (f : Flash) (o : Operation) (b : List ℕ) where
 
 module _ (s : List ℕ) (f : Flash) (o : Operation) (b : List ℕ) (h : encoded s ≡ true) where
   -- A read empties the read queue, a program the program queue, an erase neither.
-  pub left-read : (ps : List BusWord)
-      → record { told = toldBits Accepted 0; registers = putQueue s readsFrom emptyQueue; flash = f; buffer = deliveredAt f ps ++ drop (length ps) b }
-      ≡ wholeLeft s (performed (standsFor s) f o b (Reads ps))
-  unfolding performed
-  left-read ps = rw (put-reads s h emptyQueue empty-places)
+  pub left-read : (readable : ℕ) (ps : List BusWord)
+      → record {
+        told = toldBits Accepted 0;
+        registers = putQueue s readsFrom emptyQueue;
+        flash = f;
+        buffer = deliveredAt f readable 0 ps ++ drop (length ps) b;
+      }
+      ≡ wholeLeft s (performed (standsFor s) f o b (Reads Accepted readable ps))
+  unfolding performed recorded
+  left-read readable ps = rw (put-reads s h emptyQueue empty-places)
 
   pub left-program : (ps : List BusWord)
       → record {
@@ -140,23 +141,22 @@ module _ (s : List ℕ) (f : Flash) (o : Operation) (b : List ℕ) (h : encoded 
     told-so : isRecorded (numberOf a) ≡ true
     told-so = rw asked (recorded-if-refused (setupOf s) o (rw asked at refused))
 
-    pub left-recorded : record {
-      told = toldBits a 0;
-      registers = putErrors s (recorded (numberOf a) (o .address) (errorsAt s));
-      flash = f;
-      buffer = b;
-    }
+    abbrev errors : Errors
+    errors = recorded (numberOf a) (errorAddress (standsFor s .setup) (numberOf a) o) (errorsAt s)
+
+    pub left-recorded : record { told = toldBits a 0; registers = putErrors s errors; flash = f; buffer = b }
         ≡ wholeLeft s (performed (standsFor s) f o b (Recorded a))
     unfolding performed standsFor
-    left-recorded = rw (refused, told-so, put-errors s h (recorded (numberOf a) (o .address) (errorsAt s)))
+    left-recorded = rw (refused, told-so, put-errors s h errors)
 
-    -- and a denied read is blank.
-    pub left-blank : record {
-      told = toldBits a 0;
-      registers = putErrors (putQueue s readsFrom emptyQueue) (recorded (numberOf a) (o .address) (errorsAt s));
-      flash = f;
-      buffer = replicate (o .count) allOnes ++ drop (o .count) b;
-    }
-        ≡ wholeLeft s (performed (standsFor s) f o b (Blank a (o .count)))
+    -- and a denied read runs.
+    pub left-denied : (readable : ℕ) (ps : List BusWord)
+        → record {
+          told = toldBits a 0;
+          registers = putErrors (putQueue s readsFrom emptyQueue) errors;
+          flash = f;
+          buffer = deliveredAt f readable 0 ps ++ drop (length ps) b;
+        }
+        ≡ wholeLeft s (performed (standsFor s) f o b (Reads a readable ps))
     unfolding performed standsFor
-    left-blank = rw (refused, told-so, put-reads-recorded s h (recorded (numberOf a) (o .address) (errorsAt s)) emptyQueue empty-places)
+    left-denied readable ps = rw (refused, told-so, put-reads-recorded s h errors emptyQueue empty-places)

@@ -1,18 +1,23 @@
 // A whole operation on the registers: its checks once, then its words in order, without steps and queues.
 ghost use mathlib.Core.Path.{_≡_};
 ghost use mathlib.Core.Bool.{true};
+ghost use mathlib.Core.List.{_++_};
+ghost use Prim.Native.Nat.{_≤_};
+ghost use lib.ListN.{length, drop};
 ghost use Rattle.model.specs.State.{flash};
-ghost use Rattle.model.specs.Refusals.{numberOf, accepts};
-ghost use Rattle.model.specs.Errors.{recorded};
+ghost use Rattle.model.specs.Refusals.{accepts};
+ghost use Rattle.model.specs.Queue.{emptyQueue};
+ghost use Rattle.model.specs.Places.{totalWords};
 ghost use Rattle.model.specs.Checks.{operationAnswer};
 ghost use Rattle.model.specs.Whole.{wholeAnswer, shortBuffer};
-ghost use Rattle.plans.specs.Plan.{planStarted, planAnswered, performed};
-ghost use Rattle.registers.specs.Registers.{setupOf, standsFor, decode, errorsAt};
+ghost use Rattle.plans.specs.Plan.{placesOf, deliveredAt, planStarted, planAnswered, performed};
+ghost use Rattle.registers.specs.Layout.{readsFrom};
+ghost use Rattle.registers.specs.Registers.{setupOf, standsFor, decode, putQueue};
+ghost use Rattle.transfers.specs.Placed.{Placed};
 ghost use Rattle.calls.specs.Calls.{toldBits, wholeLeft, wholeIn};
 ghost use Rattle.whole.specs.Admitted.{Admitted};
 use calls::ToldBits;
 use model::Answer;
-use model::Errors;
 use model::Operation;
 use registers::Registers;
 
@@ -56,14 +61,23 @@ fn told(answer: Answer, bits: u32) -> ToldBits
     }
 }
 
+// A read's words go to the buffer, and the queue that they go through is left empty.
+fn read(s: &mut Registers, image: &[u32], o: Operation, buffer: &mut [u32], readable: u32)
+    requires { ⌜ Placed (setupOf (now s) .pages) o (flash (now image)) × (totalWords (setupOf (now s) .pages) o ≤ length (now buffer)) ⌝ }
+    ensures { λ _. ⌜ now (s .exit) ≡ putQueue (now (s .entry)) readsFrom emptyQueue ⌝ }
+    ensures { λ _. ⌜ now (buffer .exit) ≡ deliveredAt (flash (now (image .entry))) readable 0 (placesOf (setupOf (now (s .entry)) .pages) o) ++ drop (length (placesOf (setupOf (now (s .entry)) .pages) o)) (now (buffer .entry)) ⌝ }
+{
+    transfers::read(registers::pages(s), image, o, buffer, readable);
+    registers::put_reads(s, queue::empty());
+}
+
 // An operation that passes every check.
 fn started(s: &mut Registers, image: &mut [u32], o: Operation, buffer: &mut [u32]) -> ToldBits
     requires { ⌜ Admitted (now s) (flash (now image)) o (now buffer) × (accepts (operationAnswer (setupOf (now s)) o) ≡ true) ⌝ }
-    ensures { λ r. ⌜ record { told = r; registers = now (s .exit); flash = flash (now (image .exit)); buffer = now (buffer .exit) } ≡ wholeLeft (now (s .entry)) (performed (standsFor (now (s .entry))) (flash (now (image .entry))) o (now (buffer .entry)) (planStarted (setupOf (now (s .entry)) .pages) o)) ⌝ }
+    ensures { λ r. ⌜ record { told = r; registers = now (s .exit); flash = flash (now (image .exit)); buffer = now (buffer .exit) } ≡ wholeLeft (now (s .entry)) (performed (standsFor (now (s .entry))) (flash (now (image .entry))) o (now (buffer .entry)) (planStarted (setupOf (now (s .entry))) o Answer.Accepted)) ⌝ }
 {
     if places::is_read(o) {
-        transfers::read(registers::pages(s), image, o, buffer);
-        registers::put_reads(s, queue::empty());
+        read(s, image, o, buffer, o.count);
         return told(Answer::Accepted, 0);
     }
     if places::is_program(o) {
@@ -75,15 +89,7 @@ fn started(s: &mut Registers, image: &mut [u32], o: Operation, buffer: &mut [u32
     told(Answer::Accepted, bits)
 }
 
-// The error record with a refusal of 5, 7, 8 or 9 in it.
-fn recorded(s: &Registers, answer: Answer, o: Operation) -> Errors
-    ensures { λ r. ⌜ r ≡ recorded (numberOf answer) (o .address) (errorsAt (now (s .entry))) ⌝ }
-{
-    let address = o.address;
-    refusals::recorded(answer, address, registers::errors(s))
-}
-
-// What the answer of checks 5, 7, 8 and 9 leaves: a refusal is recorded, and a denied read is blank.
+// What the answer of checks 5, 7, 8 and 9 leaves: a refusal is recorded, and a denied read runs.
 fn answered(
     s: &mut Registers,
     image: &mut [u32],
@@ -92,15 +98,15 @@ fn answered(
     answer: Answer,
 ) -> ToldBits
     requires { ⌜ Admitted (now s) (flash (now image)) o (now buffer) × (answer ≡ operationAnswer (setupOf (now s)) o) ⌝ }
-    ensures { λ r. ⌜ record { told = r; registers = now (s .exit); flash = flash (now (image .exit)); buffer = now (buffer .exit) } ≡ wholeLeft (now (s .entry)) (performed (standsFor (now (s .entry))) (flash (now (image .entry))) o (now (buffer .entry)) (planAnswered (setupOf (now (s .entry)) .pages) o answer)) ⌝ }
+    ensures { λ r. ⌜ record { told = r; registers = now (s .exit); flash = flash (now (image .exit)); buffer = now (buffer .exit) } ≡ wholeLeft (now (s .entry)) (performed (standsFor (now (s .entry))) (flash (now (image .entry))) o (now (buffer .entry)) (planAnswered (setupOf (now (s .entry))) o answer)) ⌝ }
 {
     if refusals::accepts(answer) {
         return started(s, image, o, buffer);
     }
-    let errors = recorded(s, answer, o);
-    if places::is_read(o) & refusals::is_denied(answer) {
-        transfers::blank(buffer, o.count as usize);
-        registers::put_reads(s, queue::empty());
+    let errors = lookups::recorded(s, o, answer);
+    if lookups::is_denied_read(o, answer) {
+        let readable = lookups::readable(s, o, answer);
+        read(s, image, o, buffer, readable);
         registers::put_errors(s, errors);
         return told(answer, 0);
     }

@@ -1,10 +1,32 @@
-// The bit rules: what programming and erasing make of a bus word, and how many bits that changes.
+// A bus word of the image: what a read delivers of it, what programming and erasing make of it, and how many bits that changes.
 ghost use mathlib.Core.Path.{_≡_};
+ghost use Rattle.model.specs.State.{flash};
+ghost use Rattle.model.specs.Steps.{delivered, readWord};
 ghost use Prim.Native.Nat.{_<_, _≤_};
 ghost use lib.ListN.{length, getD, set};
 ghost use Rattle.model.specs.Words.{programmed, changedBits, allOnes};
 use model::BusWord;
 use model::ERASED;
+
+// The true word at a place of the image.
+pub fn delivered(image: &[u32], at: BusWord) -> u32
+    requires { ⌜ at .0 < length (now image) ⌝ }
+    ensures { λ r. ⌜ r ≡ delivered (flash (now (image .entry))) at ⌝ }
+{
+    let place = at.0 as usize;
+    image[place]
+}
+
+// Word `k` of a read, at its place: the true one, or ones where it is not readable.
+pub fn read_word(image: &[u32], at: BusWord, k: u32, readable: u32) -> u32
+    requires { ⌜ at .0 < length (now image) ⌝ }
+    ensures { λ r. ⌜ r ≡ readWord (flash (now (image .entry))) readable k at ⌝ }
+{
+    if k < readable {
+        return delivered(image, at);
+    }
+    ERASED
+}
 
 // A bit stays one only if both are one.
 pub fn programmed(old: u32, new: u32) -> u32

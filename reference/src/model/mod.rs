@@ -1,5 +1,5 @@
 //! Document 01, "Exact rules for the build", with the change requests of 02 that
-//! have landed (L1 and L2), as one plain program.
+//! have landed (L1 to L3), as one plain program.
 //!
 //! Every public call takes any controller, also a broken one, and gives the
 //! refusal number of 01 (0 for none) with whatever else the call hands out. Every

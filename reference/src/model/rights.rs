@@ -1,7 +1,9 @@
-//! 01, "Who may touch which page"; 02, L2: who decides it.
+//! 01, "Who may touch which page"; 02, L2: who decides it; L3: where a read is cut.
 
 use super::deciders::Decider;
-use super::geometry::{bank_of, info_index, page_in_bank, CREATOR_PAGE, OWNER_PAGE, PAGE_BYTES};
+use super::geometry::{
+    bank_of, info_index, page_in_bank, CREATOR_PAGE, OWNER_PAGE, PAGE_BYTES, WORD_BYTES,
+};
 use super::operation::{touched_addresses, Operation, DATA, PAGE_ERASE, PROGRAM, READ};
 use super::state::{Controller, Region};
 
@@ -36,7 +38,25 @@ pub(super) fn denied_by(c: &Controller, operation: &Operation) -> Option<Decider
             return (!permitted).then_some(Decider::BankPermission);
         }
     };
-    touched_addresses(operation).find_map(|at| rights_at(c, operation, at).denies(right))
+    first_denied(c, operation, right).map(|(_, decider)| decider)
+}
+
+/// How many words of a read that passes 5 and 7 are the stored ones: those
+/// before its first denied page, all if there is none.
+pub(super) fn readable_words(c: &Controller, read: &Operation) -> u32 {
+    match first_denied(c, read, RIGHT_READ) {
+        Some((address, _)) => ((address - u64::from(read.address)) / WORD_BYTES) as u32,
+        None => read.count,
+    }
+}
+
+/// The first byte address by which an operation is judged and denied, and who
+/// decided there.
+fn first_denied(c: &Controller, operation: &Operation, right: u8) -> Option<(u64, Decider)> {
+    touched_addresses(operation).find_map(|address| {
+        let decider = rights_at(c, operation, address).denies(right)?;
+        Some((address, decider))
+    })
 }
 
 fn rights_at(c: &Controller, operation: &Operation, address: u64) -> Decided {

@@ -33,7 +33,7 @@ pub struct InfoSetting {
 pub enum InProgress {
     #[default]
     Nothing,
-    /// `readable` is the operation's count, or 0 if the read is blank.
+    /// `readable` of its words are the stored ones; those after them are ones.
     Read {
         operation: Operation,
         moved: u32,

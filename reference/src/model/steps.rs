@@ -1,15 +1,17 @@
-//! 01, "Steps": an operation in parts.
+//! 01, "Steps": an operation in parts; 02, L3: what a denied read delivers.
 
 use super::answers::{Progress, Started, Stepped, WordGiven};
 use super::checks::{check_pop, check_push, check_ready, check_start};
-use super::geometry::ONES;
+use super::geometry::{ONES, WORD_BYTES};
 use super::operation::{moving_place, words_to_move, Operation, PROGRAM, READ};
 use super::operation_checks::operation_refusal;
 use super::queue::QUEUE_WORDS;
 use super::refusals::{record, DENIED, NONE, UNEXPECTED};
+use super::rights::readable_words;
 use super::state::{Controller, InProgress};
 
-/// Checks 1, 2, 3, 4, 5, 7, 8, 9. A denied read gives 9 and starts blank.
+/// Checks 1, 2, 3, 4, 5, 7, 8, 9. A denied read gives 9 and starts, cut at its
+/// first denied word.
 pub fn start(c: &mut Controller, operation: Operation) -> Started {
     if let Err(refusal) = check_start(c) {
         return Started {
@@ -18,23 +20,30 @@ pub fn start(c: &mut Controller, operation: Operation) -> Started {
         };
     }
     let refusal = operation_refusal(c, &operation);
-    if refusal.number != NONE {
+    let cut_read = refusal.number == DENIED && operation.kind == READ;
+    if cut_read {
+        record(c, DENIED, first_denied_address(c, &operation));
+    } else if refusal.number != NONE {
         record(c, refusal.number, operation.address);
     }
-    let blank_read = refusal.number == DENIED && operation.kind == READ;
-    if refusal.number == NONE || blank_read {
-        c.in_progress = begin(operation, blank_read);
+    if refusal.number == NONE || cut_read {
+        c.in_progress = begin(c, operation);
     }
     refusal.into()
 }
 
-fn begin(operation: Operation, blank_read: bool) -> InProgress {
+/// The byte address of a cut read's first denied word.
+fn first_denied_address(c: &Controller, read: &Operation) -> u32 {
+    read.address + WORD_BYTES as u32 * readable_words(c, read)
+}
+
+fn begin(c: &Controller, operation: Operation) -> InProgress {
     let moved = 0;
     match operation.kind {
         READ => InProgress::Read {
             operation,
             moved,
-            readable: if blank_read { 0 } else { operation.count },
+            readable: readable_words(c, &operation),
         },
         PROGRAM => InProgress::Program { operation, moved },
         _ => InProgress::Erase { operation, moved },
@@ -70,7 +79,6 @@ pub(super) fn waits(c: &Controller) -> bool {
     }
 }
 
-/// A blank read delivers ones and touches no page.
 fn step_read(
     c: &mut Controller,
     image: &[u32],
@@ -78,11 +86,7 @@ fn step_read(
     moved: u32,
     readable: u32,
 ) -> Stepped {
-    let word = if moved < readable {
-        image[moving_place(c.data_pages, &operation, moved)]
-    } else {
-        ONES
-    };
+    let word = delivered_word(c, image, &operation, moved, readable);
     c.read_queue.add(word);
     let next = InProgress::Read {
         operation,
@@ -90,6 +94,22 @@ fn step_read(
         readable,
     };
     step_moved(c, &operation, moved + 1, next, 0)
+}
+
+/// Word `number` of a read: the stored one if it is readable, else ones, also on
+/// a page that allows reading.
+fn delivered_word(
+    c: &Controller,
+    image: &[u32],
+    read: &Operation,
+    number: u32,
+    readable: u32,
+) -> u32 {
+    if number < readable {
+        image[moving_place(c.data_pages, read, number)]
+    } else {
+        ONES
+    }
 }
 
 /// A bit stays one only if both are one.

@@ -5,7 +5,7 @@ use super::operation::{words_to_move, Operation, BANK_ERASE, PAGE_ERASE, PROGRAM
 use super::operation_checks::operation_refusal;
 use super::queue::{Queue, QUEUE_WORDS};
 use super::refusals::{bit, CROSSES_WINDOW, DENIED, MALFORMED, NONE, OUT_OF_RANGE};
-use super::rights::ALL_RIGHTS;
+use super::rights::{readable_words, ALL_RIGHTS};
 use super::rounds::MOST_LOST;
 use super::state::{Controller, InProgress, Phase, Region};
 
@@ -75,13 +75,10 @@ fn under_way(c: &Controller, operation: &Operation, moved: u32) -> bool {
     c.phase == Phase::Ready && u64::from(moved) < words_to_move(c.data_pages, operation)
 }
 
-/// A denied read is there as blank, and no other read is.
-fn readable_is_valid(c: &Controller, operation: &Operation, readable: u32) -> bool {
-    match operation_refusal(c, operation).number {
-        NONE => readable == operation.count,
-        DENIED => readable == 0,
-        _ => false,
-    }
+/// A read passes 5 and 7, and holds the number of its readable words, denied or not.
+fn readable_is_valid(c: &Controller, read: &Operation, readable: u32) -> bool {
+    matches!(operation_refusal(c, read).number, NONE | DENIED)
+        && readable == readable_words(c, read)
 }
 
 /// 02, L1: a count over 5 isn't ours.

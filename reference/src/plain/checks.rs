@@ -1,5 +1,5 @@
 //! 01, "Who may touch which page" and "When the desk says no": rights and checks;
-//! 02, L2: who decided.
+//! 02, L2: who decided; L3: how many words of a read are the stored ones.
 
 use super::words::{erased, image_words, INFO_PAGES, INFO_TYPES, PAGE_BYTES, WORD_BYTES};
 use crate::model::{
@@ -8,6 +8,7 @@ use crate::model::{
     MAX_COUNT, MOST_LOST, NONE, OUT_OF_RANGE, OWNER_PAGE, PAGE_ERASE, PROGRAM, QUEUE_WORDS, READ,
     RIGHT_ERASE, RIGHT_PROGRAM, RIGHT_READ, UNINITIALISED,
 };
+use std::ops::Range;
 
 const WINDOW_BYTES: u32 = 64;
 const RECORDED_KINDS: u32 = 1 << MALFORMED | 1 << OUT_OF_RANGE | 1 << CROSSES_WINDOW | 1 << DENIED;
@@ -55,22 +56,22 @@ fn valid_progress(c: &Controller) -> bool {
             moved,
             readable,
         } => {
-            let fits = match operation_refusal(c, operation).number {
-                NONE => *readable == operation.count,
-                DENIED => *readable == 0,
-                _ => false,
-            };
-            operation.kind == READ && fits && *moved < operation.count && queued == 0
+            let judged = judge(c, operation);
+            operation.kind == READ
+                && matches!(judged.refusal.number, NONE | DENIED)
+                && *readable == judged.allowed
+                && *moved < operation.count
+                && queued == 0
         }
         InProgress::Program { operation, moved } => {
             operation.kind == PROGRAM
-                && operation_refusal(c, operation).number == NONE
+                && judge(c, operation).refusal.number == NONE
                 && *moved < operation.count
                 && moved + queued <= operation.count
         }
         InProgress::Erase { operation, moved } => {
             matches!(operation.kind, PAGE_ERASE | BANK_ERASE)
-                && operation_refusal(c, operation).number == NONE
+                && judge(c, operation).refusal.number == NONE
                 && (*moved as usize) < erased(c.data_pages, operation).len()
                 && queued == 0
         }
@@ -81,19 +82,33 @@ pub(super) fn counts(operation: &Operation) -> bool {
     matches!(operation.kind, READ | PROGRAM)
 }
 
-/// Checks 5, 7, 8 and 9, of a D that is right.
-pub(super) fn operation_refusal(c: &Controller, operation: &Operation) -> Refusal {
+/// What checks 5, 7, 8 and 9 give.
+pub(super) struct Judged {
+    pub refusal: Refusal,
+    /// The words before the first denied one; 0 where no page is looked at.
+    pub allowed: u32,
+}
+
+/// Judged without a look at its pages.
+fn without_pages(refusal: impl Into<Refusal>) -> Judged {
+    Judged {
+        refusal: refusal.into(),
+        allowed: 0,
+    }
+}
+
+/// Of a D that is right.
+pub(super) fn judge(c: &Controller, operation: &Operation) -> Judged {
     if !well_formed(operation) {
-        return MALFORMED.into();
+        return without_pages(MALFORMED);
     }
     let d = c.data_pages;
     if operation.address >= 2 * d * PAGE_BYTES {
-        return OUT_OF_RANGE.into();
+        return without_pages(OUT_OF_RANGE);
     }
     let first = operation.address / PAGE_BYTES;
     if operation.kind == BANK_ERASE {
-        let allowed = c.bank_erase_permissions[(first / d) as usize];
-        return denied_if((!allowed).then_some(Decider::BankPermission));
+        return judge_bank_erase(c.bank_erase_permissions[(first / d) as usize]);
     }
     let last_byte = match operation.kind {
         PAGE_ERASE => operation.address,
@@ -106,25 +121,48 @@ pub(super) fn operation_refusal(c: &Controller, operation: &Operation) -> Refusa
         _ => first % d + (last - first) < INFO_TYPES[usize::from(operation.info_type)].1,
     };
     if !fits {
-        return OUT_OF_RANGE.into();
+        return without_pages(OUT_OF_RANGE);
     }
     if operation.kind == PROGRAM && operation.address / WINDOW_BYTES != last_byte / WINDOW_BYTES {
-        return CROSSES_WINDOW.into();
+        return without_pages(CROSSES_WINDOW);
     }
+    judge_pages(c, operation, first..last + 1)
+}
+
+fn judge_bank_erase(permitted: bool) -> Judged {
+    if permitted {
+        without_pages(NONE)
+    } else {
+        without_pages(Refusal::denied(Decider::BankPermission))
+    }
+}
+
+/// Check 9 by the pages of an operation.
+fn judge_pages(c: &Controller, operation: &Operation, mut pages: Range<u32>) -> Judged {
     let right = match operation.kind {
         READ => RIGHT_READ,
         PROGRAM => RIGHT_PROGRAM,
         _ => RIGHT_ERASE,
     };
-    let mut pages = first..last + 1;
-    denied_if(match operation.partition {
-        DATA => pages.find_map(|page| lacking(data_rights(c, page), right)),
-        _ => pages.find_map(|page| lacking(info_rights(c, operation.info_type, page), right)),
-    })
+    let denied_on = |page| Some((page, lacking(rights(c, operation, page), right)?));
+    match pages.find_map(denied_on) {
+        Some((page, decider)) => Judged {
+            refusal: Refusal::denied(decider),
+            allowed: (page * PAGE_BYTES).saturating_sub(operation.address) / WORD_BYTES,
+        },
+        None => Judged {
+            refusal: NONE.into(),
+            allowed: operation.count,
+        },
+    }
 }
 
-fn denied_if(decider: Option<Decider>) -> Refusal {
-    decider.map_or(NONE.into(), Refusal::denied)
+/// Of a page of the address space.
+fn rights(c: &Controller, operation: &Operation, page: u32) -> (u8, Decider) {
+    match operation.partition {
+        DATA => data_rights(c, page),
+        _ => info_rights(c, operation.info_type, page),
+    }
 }
 
 /// Who decided, if the right is not among the rights.

@@ -15,7 +15,7 @@ use crate::model::{
     WholeDone, WordGiven, BUSY, DENIED, INVALID, MALFORMED, NONE, ONES, OUT_OF_RANGE, PROGRAM,
     QUEUE_EMPTY, QUEUE_FULL, QUEUE_WORDS, READ, RIGHT_READ, SHORT_BUFFER, UNEXPECTED,
 };
-use checks::{counts, data_rights, lacking, not_ready, not_ready_with, operation_refusal, valid};
+use checks::{counts, data_rights, judge, lacking, not_ready, not_ready_with, valid, Judged};
 use queue::{add, take_oldest};
 use words::{erase, erased, place, program, put, read, PAGE_BYTES, WORD_BYTES};
 
@@ -31,22 +31,16 @@ pub fn start(c: &mut Controller, operation: Operation) -> Started {
     if c.in_progress != InProgress::Nothing {
         return Refusal::from(BUSY).into();
     }
-    let refusal = operation_refusal(c, &operation);
-    record(c, refusal.number, operation.address);
+    let judged = judge(c, &operation);
+    record(c, &operation, &judged);
+    let Judged { refusal, allowed } = judged;
     let moved = 0;
     match (operation.kind, refusal.number) {
-        (READ, NONE) => {
+        (READ, NONE | DENIED) => {
             c.in_progress = InProgress::Read {
                 operation,
                 moved,
-                readable: operation.count,
-            }
-        }
-        (READ, DENIED) => {
-            c.in_progress = InProgress::Read {
-                operation,
-                moved,
-                readable: 0,
+                readable: allowed,
             }
         }
         (PROGRAM, NONE) => c.in_progress = InProgress::Program { operation, moved },
@@ -178,21 +172,19 @@ pub fn whole(
     if c.in_progress != InProgress::Nothing || queued > 0 {
         return done(BUSY.into(), 0);
     }
-    let refusal = operation_refusal(c, &operation);
+    let judged = judge(c, &operation);
     let count = operation.count as usize;
-    if refusal.number != MALFORMED && counts(&operation) && buffer.len() < count {
+    if judged.refusal.number != MALFORMED && counts(&operation) && buffer.len() < count {
         return done(SHORT_BUFFER.into(), 0);
     }
-    record(c, refusal.number, operation.address);
+    record(c, &operation, &judged);
+    let Judged { refusal, allowed } = judged;
     let d = c.data_pages;
     let bits = match (operation.kind, refusal.number) {
-        (READ, NONE) => {
-            read(&mut buffer[..count], image, d, &operation);
-            c.read_queue = Queue::default();
-            0
-        }
-        (READ, DENIED) => {
-            buffer[..count].fill(ONES);
+        (READ, NONE | DENIED) => {
+            let (stored, denied) = buffer[..count].split_at_mut(allowed as usize);
+            read(stored, image, d, &operation);
+            denied.fill(ONES);
             c.read_queue = Queue::default();
             0
         }
@@ -239,9 +231,10 @@ fn fetch(c: &Controller, image: &[u32], address: u32) -> HostGiven {
     }
 }
 
-fn record(c: &mut Controller, refusal: u8, address: u32) {
-    if refusal != NONE {
-        c.recorded |= 1 << refusal;
-        c.last_address = address;
+/// The address of the first denied word; programs and erases have it on their one page.
+fn record(c: &mut Controller, operation: &Operation, judged: &Judged) {
+    if judged.refusal.number != NONE {
+        c.recorded |= 1 << judged.refusal.number;
+        c.last_address = operation.address + WORD_BYTES * judged.allowed;
     }
 }

@@ -11,9 +11,11 @@ pub(super) const INFO_PAGES: u32 = 13;
 /// Where each type begins among its bank's information pages, and how many it has.
 pub(super) const INFO_TYPES: [(u32, u32); 3] = [(0, 10), (10, 1), (11, 2)];
 
+/// The first words of a read, as many as the buffer takes.
 pub(super) fn read(buffer: &mut [u32], image: &[u32], d: u32, operation: &Operation) {
+    let words = buffer.len() as u32;
     let mut left = buffer;
-    for piece in pieces(d, operation) {
+    for piece in pieces(d, operation, words) {
         let (part, rest) = left.split_at_mut(piece.len());
         part.copy_from_slice(&image[piece]);
         left = rest;
@@ -23,7 +25,7 @@ pub(super) fn read(buffer: &mut [u32], image: &[u32], d: u32, operation: &Operat
 pub(super) fn program(image: &mut [u32], buffer: &[u32], d: u32, operation: &Operation) -> u32 {
     let mut left = buffer;
     let mut bits = 0;
-    for piece in pieces(d, operation) {
+    for piece in pieces(d, operation, operation.count) {
         let (part, rest) = left.split_at(piece.len());
         for (word, new) in image[piece].iter_mut().zip(part) {
             bits += put(word, *word & new);
@@ -44,9 +46,9 @@ pub(super) fn put(word: &mut u32, new: u32) -> u32 {
     bits
 }
 
-/// The places of a read's or program's words, page by page.
-fn pieces(d: u32, operation: &Operation) -> impl Iterator<Item = Range<usize>> + '_ {
-    let end = operation.address + WORD_BYTES * operation.count;
+/// The places of a read's or program's first words, page by page.
+fn pieces(d: u32, operation: &Operation, words: u32) -> impl Iterator<Item = Range<usize>> + '_ {
+    let end = operation.address + WORD_BYTES * words;
     let mut address = operation.address;
     std::iter::from_fn(move || {
         if address == end {

@@ -123,6 +123,20 @@ fn every_other_number_in_phase_and_progress_breaks_the_state() {
     }
 }
 
+/// An allowed read, one denied at its first word, and one denied at its third.
+#[test]
+fn every_other_number_of_readable_words_breaks_the_state() {
+    let allowed = reading();
+    let denied = with(&allowed, "default_rights", 6);
+    let cut = with_progress(without_reading(1), data(READ, 0x03F8, 16), 3);
+    for (c, readable) in [(allowed, 16), (denied, 0), (cut, 2)] {
+        for value in values() {
+            let answer = cleared(with(&c, "progress.readable", value));
+            assert_eq!(answer == 0, value == readable, "readable {value}");
+        }
+    }
+}
+
 /// They are plain numbers: 6 breaks the state as 256 does.
 #[test]
 fn every_lost_count_over_5_breaks_the_state() {

@@ -202,7 +202,7 @@ fn every_other_answer_of_a_look_tells_nobody() {
     assert_eq!((given.answer, given.decider), (5, NO_DECIDER));
 }
 
-/// A denied operation leaves its record and, of a read, the blank read in progress: no number tells who decided.
+/// A denied operation leaves its record and, of a read, the read in progress: no number tells who decided.
 #[test]
 fn the_controller_does_not_keep_who_decided() {
     let erase = data(PAGE_ERASE, 13 * 1024, 0);

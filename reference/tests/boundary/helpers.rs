@@ -34,6 +34,18 @@ pub fn ready() -> flat::Controller {
     }
 }
 
+/// Ready, with every right but that to read one data page.
+pub fn without_reading(page: u32) -> flat::Controller {
+    let mut c = ready();
+    c.regions[3] = flat::Region {
+        first_page: page,
+        page_count: 1,
+        on: 1,
+        rights: 6,
+    };
+    c
+}
+
 /// Every word tells its own place.
 pub fn image() -> Vec<u32> {
     (0..model::image_words(D) as u32).collect()

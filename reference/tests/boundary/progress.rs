@@ -96,7 +96,7 @@ fn each_large_field_of_an_operation_counts_as_255() {
 }
 
 #[test]
-fn a_denied_read_is_in_progress_with_nothing_readable() {
+fn a_read_denied_at_its_first_word_is_in_progress_with_nothing_readable() {
     let operation = data(READ, 0x0404, 3);
     let (answer, mut after) = left(with_old_progress(ready_without_rights()), |c| {
         calls::start(c, operation).answer
@@ -115,6 +115,46 @@ fn a_denied_read_is_in_progress_with_nothing_readable() {
     );
     calls::step(&mut after, &mut image());
     assert_eq!(after.read_queue.words[0], u32::MAX);
+}
+
+#[test]
+fn a_denied_read_is_in_progress_with_its_readable_words() {
+    let base = without_reading(17);
+    let (answer, after) = left(with_old_progress(base), |c| {
+        calls::start(c, data(READ, 0x43F8, 20)).answer
+    });
+    assert_eq!(answer, 9);
+    assert_changed(
+        &after,
+        &base,
+        &[
+            ("progress.operation.address", 0x43F8),
+            ("progress.operation.count", 20),
+            ("progress.readable", 2),
+            ("progress.running", 1),
+            ("recorded", 1 << 9),
+            ("last_address", 0x4400),
+        ],
+    );
+}
+
+/// Page 16 may be read, page 17 not, page 18 again.
+#[test]
+fn each_step_of_a_denied_read_moves_a_stored_word_or_ones() {
+    let c = without_reading(17);
+    let read = data(READ, 0x43F8, 300);
+    for (moved, word) in [
+        (0, 7_424 + 254),
+        (1, 7_424 + 255),
+        (2, u32::MAX),
+        (257, u32::MAX),
+        (258, u32::MAX),
+        (299, u32::MAX),
+    ] {
+        let mut c = with(&with_progress(c, read, moved), "progress.readable", 2);
+        assert_eq!(calls::step(&mut c, &mut image()).answer, 0);
+        assert_eq!(calls::pop(&mut c).word, word, "{moved} moved");
+    }
 }
 
 /// The bus word that the next step of a read delivers, which tells its place.

@@ -63,6 +63,85 @@ fn a_whole_operation_tells_its_bits_and_uses_its_buffer() {
     assert!(flash.iter().all(|word| *word == u32::MAX));
 }
 
+/// What a whole read that is denied tells, puts into a buffer of sevens and leaves.
+fn cut_read(
+    c: flat::Controller,
+    flash: &[u32],
+    read: flat::Operation,
+) -> (flat::Completed, Vec<u32>, flat::Controller) {
+    let mut flash_after = flash.to_vec();
+    let mut buffer = vec![7; read.count as usize + 1];
+    let (given, after) = left(c, |c| calls::run(c, &mut flash_after, read, &mut buffer));
+    assert_eq!(flash_after, flash);
+    (given, buffer, after)
+}
+
+/// From the last word of page 14 over the bank border to the first of page 17, at each page.
+#[test]
+fn a_denied_whole_read_gives_its_readable_words_and_then_ones() {
+    let read = data(READ, 15 * 1024 - 4, 1 + 256 + 256 + 1);
+    let stored: Vec<u32> = (3_839..4_096).chain(7_424..7_681).collect();
+    for (page, readable) in [(14, 0), (15, 1), (16, 257), (17, 513)] {
+        let c = without_reading(page);
+        let (given, buffer, after) = cut_read(c, &image(), read);
+        assert_eq!((given.answer, given.decider, given.bits), (9, 3, 0));
+        assert_eq!(buffer[..readable], stored[..readable]);
+        assert!(buffer[readable..514].iter().all(|word| *word == u32::MAX));
+        assert_eq!(buffer[514], 7);
+        let address = read.address + 4 * readable as u32;
+        assert_changed(
+            &after,
+            &c,
+            &[("recorded", 1 << 9), ("last_address", address)],
+        );
+    }
+}
+
+/// The last word of an information page, then ones of the next.
+#[test]
+fn a_denied_whole_read_of_information_is_cut_at_each_page() {
+    for (place, bank, info_type, page) in info_pages() {
+        if page == 0 {
+            continue;
+        }
+        let c = with(&ready(), &format!("info_pages[{place}].on"), 0);
+        let border = (bank * D + page) * 1024;
+        let (given, buffer, after) = cut_read(c, &image(), info(READ, info_type, border - 4, 3));
+        assert_eq!((given.answer, given.decider), (9, flat::BY_PAGE_SETTING));
+        let before = bank * 7_424 + 4_096 + (place as u32 - 13 * bank) * 256 - 1;
+        assert_eq!(buffer, [before, u32::MAX, u32::MAX, 7]);
+        assert_changed(
+            &after,
+            &c,
+            &[("recorded", 1 << 9), ("last_address", border)],
+        );
+    }
+}
+
+/// Locked seeds close the creator page, page 1, and leave the owner page open.
+#[test]
+fn a_denied_whole_read_is_cut_at_a_closed_seed_page() {
+    let c = with(&ready(), "seeds_locked", 1);
+    let (given, buffer, after) = cut_read(c, &image(), info(READ, 0, 0x3F8, 300));
+    assert_eq!((given.answer, given.decider), (9, flat::BY_SEED_LOCK));
+    assert_eq!(buffer[..2], [4_350, 4_351]);
+    assert!(buffer[2..300].iter().all(|word| *word == u32::MAX));
+    assert_eq!(after.last_address, 0x400);
+}
+
+/// Of two images that agree at the readable words alone, the same is told.
+#[test]
+fn a_denied_whole_read_tells_nothing_of_its_other_words() {
+    let c = without_reading(5);
+    let read = data(READ, 0x13F4, 600);
+    let told = cut_read(c, &image(), read);
+    let mut other: Vec<u32> = image().iter().map(|word| !word).collect();
+    other[1_277..1_280].copy_from_slice(&image()[1_277..1_280]);
+    assert_eq!(cut_read(c, &other, read), told);
+    other[1_279] ^= 1;
+    assert_ne!(cut_read(c, &other, read), told);
+}
+
 #[test]
 fn lengths_of_image_and_buffer_arrive() {
     let mut flash = image();

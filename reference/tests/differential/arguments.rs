@@ -1,10 +1,18 @@
 //! Arguments of calls: mostly sensible and near a border, sometimes nonsense.
 
 use crate::calls::AskedInRound;
-use crate::layout::{bank, next_address, pages_of_type, INFO_PAGES, PAGE_BYTES, PAGE_WORDS};
+use crate::layout::{
+    bank, next_address, pages_of_type, DATA_PAGES, INFO_PAGES, MOST_WORDS, PAGE_BYTES, PAGE_WORDS,
+    WORD_BYTES,
+};
+use crate::pages::denier;
 use crate::rng::Rng;
 use reference::interface::{flat, from_reference};
 use reference::model::Controller;
+use std::ops::Range;
+
+/// Of a hundred operations, so many are reads over a denied page, if there is one.
+const READS_OVER_A_DENIED_PAGE: u32 = 8;
 
 /// Draws arguments that suit a state.
 pub struct Arguments<'a> {
@@ -228,6 +236,91 @@ impl Arguments<'_> {
     // -- operations ----------------------------------------------------------
 
     pub fn operation(&mut self) -> flat::Operation {
+        let over_denied_page = self.rng.percent(READS_OVER_A_DENIED_PAGE);
+        let read = over_denied_page.then(|| self.read_over_a_denied_page());
+        read.flatten().unwrap_or_else(|| self.any_operation())
+    }
+
+    /// A read of up to five pages whose first denied one is at any place among
+    /// them; None if no page is denied.
+    pub fn read_over_a_denied_page(&mut self) -> Option<flat::Operation> {
+        let read = flat::Operation {
+            kind: flat::READ,
+            partition: self.rng.below(2),
+            info_type: self.rng.pick(&[0, 0, 2]),
+            ..flat::Operation::default()
+        };
+        let pages = self.pages_beside(&read)?;
+        let c = from_reference(self.state);
+        let denied: Vec<bool> = pages
+            .clone()
+            .map(|page| denier(&c, &read, page).is_some())
+            .collect();
+        let place = self.denied_place(&denied)?;
+        let allowed = denied[..place].iter().rev().take_while(|denied| !**denied);
+        let before = allowed.count().min(self.rng.weighted(&[1, 10, 5, 5, 5]));
+        let after = self.rng.weighted(&[10, 4, 2, 1, 1]);
+        let page = |place: usize| pages.start + place.min(denied.len() - 1) as u32;
+        Some(self.read_of_pages(read, page(place - before), page(place), page(place + after)))
+    }
+
+    /// The place of a denied page, mostly of one after an allowed page.
+    fn denied_place(&mut self, denied: &[bool]) -> Option<usize> {
+        let all = (0..denied.len()).filter(|&place| denied[place]);
+        let all: Vec<usize> = all.collect();
+        let after_allowed = |&place: &usize| place > 0 && !denied[place - 1];
+        let seams: Vec<usize> = all.iter().copied().filter(after_allowed).collect();
+        let list = if seams.is_empty() || self.rng.percent(10) {
+            all
+        } else {
+            seams
+        };
+        (!list.is_empty()).then(|| self.rng.pick(&list))
+    }
+
+    /// A read from the first page on that reaches the second and, if it has words enough, the last.
+    fn read_of_pages(
+        &mut self,
+        read: flat::Operation,
+        first: u32,
+        reached: u32,
+        last: u32,
+    ) -> flat::Operation {
+        let least = (reached * PAGE_WORDS + 1).saturating_sub(MOST_WORDS);
+        let begin = (first * PAGE_WORDS + self.first_word_of_span()).max(least);
+        let end = (last * PAGE_WORDS + self.rng.between(1, 8)).max(begin + 1);
+        flat::Operation {
+            address: begin * WORD_BYTES,
+            count: (end - begin).min(MOST_WORDS),
+            ..read
+        }
+    }
+
+    /// The pages, one beside the other, that a read of this partition and type can have.
+    fn pages_beside(&mut self, read: &flat::Operation) -> Option<Range<u32>> {
+        let d = self.state.data_pages;
+        if !DATA_PAGES.contains(&d) {
+            return None;
+        }
+        Some(match read.partition {
+            flat::DATA => 0..2 * d,
+            _ => {
+                let bank = self.rng.below(2) * d;
+                bank..bank + pages_of_type(read.info_type)
+            }
+        })
+    }
+
+    /// The place of a word in its page, mostly one of the last.
+    fn first_word_of_span(&mut self) -> u32 {
+        match self.rng.below(6) {
+            0 => 0,
+            1 => self.rng.below(PAGE_WORDS),
+            _ => PAGE_WORDS - self.rng.between(1, 8),
+        }
+    }
+
+    fn any_operation(&mut self) -> flat::Operation {
         let kind = match self.rng.weighted(&[36, 36, 16, 8, 2, 1]) {
             4 => self.rng.pick(&[4, 5, 9, 128, 255]),
             5 => self.large(),

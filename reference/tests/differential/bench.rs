@@ -41,8 +41,9 @@ pub struct Turn {
 /// What a turn met and what it gave.
 pub struct Taken {
     pub outcome: Outcome,
-    /// The state that the call met.
+    /// The state that the call met, and the one that it left.
     pub before: flat::Controller,
+    pub after: flat::Controller,
     /// The words that the operation then in progress had moved by steps since its start, if all of them so.
     pub stepped: Option<u32>,
 }
@@ -130,17 +131,17 @@ impl Bench {
         compare::states(call, model.answer, &before, &self.flat, &self.second)?;
         self.compare_memory(call, &model, &before)?;
         let stepped = self.stepped;
-        self.count_steps(call, &model);
+        self.count_steps(&before, &model);
         Ok(Taken {
             outcome: model,
             before,
+            after: self.flat,
             stepped,
         })
     }
 
-    fn count_steps(&mut self, call: &Call, outcome: &Outcome) {
-        let begins = matches!(call, Call::Start { .. }) && outcome.answer == 0;
-        if begins {
+    fn count_steps(&mut self, before: &flat::Controller, outcome: &Outcome) {
+        if self.flat.progress.running > before.progress.running {
             self.stepped = Some(0);
         } else if outcome.movement == flat::MOVEMENT_MOVED {
             self.stepped = self.stepped.map(|words| words + 1);

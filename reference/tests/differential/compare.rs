@@ -2,6 +2,8 @@
 //! the lent memory.
 
 use crate::calls::{Call, Memory, Outcome};
+use crate::layout::WORD_BYTES;
+use crate::pages::readable_words;
 use crate::{deciders, table};
 use reference::interface::{fields, flat, from_reference, to_reference};
 use reference::model::{self, Controller};
@@ -72,7 +74,7 @@ fn left_by(
     if !changes_state(call, answer) {
         return *before;
     }
-    if answer != 0 && !starts_blank(call, answer) {
+    if answer != 0 && !is_cut_read(call, answer) {
         return recorded(call, answer, before);
     }
     let Some(second) = second else {
@@ -82,6 +84,9 @@ fn left_by(
     let mut left = from_reference(second);
     if !starts_or_ends(call, before, &left) {
         keep_unused_progress(before, &mut left);
+    }
+    if is_cut_read(call, answer) {
+        cut(call, before, &mut left);
     }
     left
 }
@@ -103,10 +108,20 @@ fn is_recorded(answer: u32) -> bool {
     .contains(&answer)
 }
 
-/// A denied read still starts, blank.
-fn starts_blank(call: &Call, answer: u32) -> bool {
+/// A denied read still starts.
+fn is_cut_read(call: &Call, answer: u32) -> bool {
     let read = call.operation().is_some_and(|o| o.kind == flat::READ);
     read && answer == u32::from(model::DENIED)
+}
+
+/// The last address is that of the first denied word; a start leaves how many come before it.
+fn cut(call: &Call, before: &flat::Controller, left: &mut flat::Controller) {
+    let read = call.operation().expect("a read is an operation");
+    let readable = readable_words(before, &read).expect("it passes all but 9");
+    left.last_address = read.address + WORD_BYTES * readable;
+    if left.progress.running == 1 {
+        left.progress.readable = readable;
+    }
 }
 
 /// The kind joins the recorded ones, the address becomes the last one, nothing else changes.

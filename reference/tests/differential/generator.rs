@@ -174,9 +174,13 @@ impl Generator {
     /// Any call, on a state that the bench has written to and mostly broken.
     fn written_turn(&mut self, bench: &Bench) -> Turn {
         let flat = bench.flat();
+        let reading = situation(bench.state()) == Situation::Reading;
         let writes = match bench.state() {
             Some(state) if self.rng.percent(20) => {
                 states::progress_written(&mut self.rng, flat, state)
+            }
+            Some(_) if reading && self.rng.percent(20) => {
+                states::readable_written(&mut self.rng, flat)
             }
             _ => states::fields_written(&mut self.rng, flat),
         };

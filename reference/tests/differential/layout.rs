@@ -11,6 +11,8 @@ pub const WORD_BYTES: u32 = 4;
 pub const PAGE_WORDS: u32 = 256;
 pub const PAGE_BYTES: u32 = PAGE_WORDS * WORD_BYTES;
 pub const INFO_PAGES: u32 = 13;
+/// The most words of a read or program.
+pub const MOST_WORDS: u32 = 1024;
 /// Where each type begins among its bank's information pages, and how many it has.
 const INFO_TYPES: [(u32, u32); 3] = [(0, 10), (10, 1), (11, 2)];
 

@@ -31,6 +31,8 @@ const SEED: u64 = 0x10_57_0F_DE_5C;
 const SHUFFLES: u64 = 8_000;
 /// Shuffles that must have been tried with the premise holding and both lists writing.
 const SHUFFLES_OF_TWO_WRITERS: u64 = 1_000;
+/// Shuffles that must have been tried with the premise holding only because a denied read stops early.
+const SHUFFLES_APART_BY_A_CUT: u64 = 50;
 
 /// A number from the environment, decimal or with 0x.
 fn number(variable: &str, otherwise: u64) -> u64 {
@@ -79,11 +81,16 @@ fn any_shuffle_of_two_lists_gives_what_each_list_gives_alone() {
     let seed = number("LURGABEL_SEED", SEED);
     let counts = shuffles::trials(seed, SHUFFLES).unwrap_or_else(|told| panic!("{told}"));
     print(&format!(
-        "\n{} shuffles in {:.1} s: the premise held in {}, with both lists writing in {}\n",
+        "\n{} shuffles in {:.1} s: the premise held in {}, with both lists writing in {}, by a cut in {}\n",
         counts.trials,
         begun.elapsed().as_secs_f64(),
         counts.held,
-        counts.both_wrote
+        counts.both_wrote,
+        counts.apart_by_a_cut
     ));
     assert!(counts.both_wrote >= SHUFFLES_OF_TWO_WRITERS, "{counts:?}");
+    assert!(
+        counts.apart_by_a_cut >= SHUFFLES_APART_BY_A_CUT,
+        "{counts:?}"
+    );
 }

@@ -1,10 +1,13 @@
-//! Who decides about a page, as the comparison itself reckons: it asks neither
-//! program. Pages are those of the address space, and lie inside.
+//! Who decides about a page, and where a denied read is cut, as the comparison
+//! itself reckons: it asks neither program. Pages are those of the address
+//! space, and lie inside.
 
-use crate::layout::{type_begin, INFO_PAGES, PAGE_BYTES};
+use crate::layout::{
+    pages_of_type, type_begin, DATA_PAGES, INFO_PAGES, MOST_WORDS, PAGE_BYTES, WORD_BYTES,
+};
 use reference::interface::flat::{self, Controller, Operation, PageSetting, Region};
 
-const CREATOR_PAGE: u32 = 1;
+pub const CREATOR_PAGE: u32 = 1;
 pub const OWNER_PAGE: u32 = 2;
 
 /// The right that a kind other than bank erase needs.
@@ -53,7 +56,7 @@ pub fn allows(setting: PageSetting, right: u32) -> bool {
 }
 
 /// Who denies a page to a read, program or page erase, if it is denied.
-fn denier(c: &Controller, operation: &Operation, page: u32) -> Option<u32> {
+pub fn denier(c: &Controller, operation: &Operation, page: u32) -> Option<u32> {
     let right = right(operation.kind);
     if operation.partition == flat::DATA {
         let region = holding(c, page).next();
@@ -72,6 +75,42 @@ fn denier(c: &Controller, operation: &Operation, page: u32) -> Option<u32> {
 pub fn deniers_of_read(c: &Controller, read: &Operation) -> Vec<Option<u32>> {
     let (first, last) = span(read);
     (first..=last).map(|page| denier(c, read, page)).collect()
+}
+
+/// How many words of a read come before its first denied page, all if none is
+/// denied; None of a read that does not start.
+pub fn readable_words(c: &Controller, read: &Operation) -> Option<u32> {
+    if !DATA_PAGES.contains(&c.data_pages) || !well_formed(read) || !inside(c.data_pages, read) {
+        return None;
+    }
+    let (first, _) = span(read);
+    let denied = (first..).zip(deniers_of_read(c, read));
+    let mut denied = denied.filter(|(_, denier)| denier.is_some());
+    Some(denied.next().map_or(read.count, |(page, _)| {
+        (page * PAGE_BYTES).saturating_sub(read.address) / WORD_BYTES
+    }))
+}
+
+/// Check 5 of a read.
+fn well_formed(read: &Operation) -> bool {
+    let type_used = read.partition == flat::INFORMATION;
+    read.kind == flat::READ
+        && read.partition <= flat::INFORMATION
+        && (read.info_type <= 2 || !type_used)
+        && read.address.is_multiple_of(WORD_BYTES)
+        && (1..=MOST_WORDS).contains(&read.count)
+}
+
+/// Check 7 of a read.
+fn inside(data_pages: u32, read: &Operation) -> bool {
+    let (first, last) = span(read);
+    match read.partition {
+        flat::DATA => last < 2 * data_pages,
+        _ => {
+            let end = first % data_pages + (last - first);
+            first < 2 * data_pages && end < pages_of_type(read.info_type)
+        }
+    }
 }
 
 /// Creator page: provision enabled and seeds not locked; owner page: provision enabled.
@@ -121,4 +160,51 @@ fn each_page_of_a_read_has_its_denier() {
         deniers(flat::INFORMATION),
         [None, Some(10), Some(10), Some(9)]
     );
+}
+
+/// Data page 2 and information pages 1 and 2 of type 0 are denied, and every page of type 2.
+#[test]
+fn the_readable_words_come_before_the_first_denied_page() {
+    let mut c = Controller {
+        data_pages: 10,
+        default_rights: 1,
+        ..Controller::default()
+    };
+    c.regions[0] = Region {
+        first_page: 2,
+        page_count: 1,
+        on: 1,
+        rights: 6,
+    };
+    c.info_pages[0] = PageSetting { on: 1, rights: 1 };
+    let readable = |partition, info_type, address, count| {
+        let read = Operation {
+            address,
+            count,
+            kind: flat::READ,
+            partition,
+            info_type,
+        };
+        readable_words(&c, &read)
+    };
+    let data = |address, count| readable(flat::DATA, 9, address, count);
+    assert_eq!(data(0x3FC, 257), Some(257));
+    assert_eq!(data(0x3FC, 258), Some(257));
+    assert_eq!(data(0x7FC, 1_024), Some(1));
+    assert_eq!(data(0x800, 1_024), Some(0));
+    assert_eq!(data(0xBFC, 1_024), Some(0));
+    assert_eq!(data(0xC00, 1_024), Some(1_024));
+    assert_eq!(data(0x4FFC, 1), Some(1));
+    assert_eq!(data(0x4FFC, 2), None);
+    assert_eq!(data(0x3FD, 1), None);
+    assert_eq!(data(0, 0), None);
+    assert_eq!(data(0, 1_025), None);
+    let info = |info_type, address, count| readable(flat::INFORMATION, info_type, address, count);
+    assert_eq!(info(0, 0x3F8, 9), Some(2));
+    assert_eq!(info(0, 0x4FFC, 1), Some(0));
+    assert_eq!(info(2, 0x3FC, 2), Some(0));
+    assert_eq!(info(2, 0x7FC, 2), None);
+    assert_eq!(info(1, 0x400, 1), None);
+    assert_eq!(info(3, 0, 1), None);
+    assert_eq!(info(0, 0x5000, 1), None);
 }

@@ -66,6 +66,7 @@ fn play(seed: u64, episode: u64, alter: Alter, tally: &mut Tally) -> Result<(), 
         match bench.take(turn) {
             Ok(taken) => tally.count(&Met {
                 before: &taken.before,
+                after: &taken.after,
                 call: &turn.call,
                 outcome: &taken.outcome,
                 writes: turn.writes.len(),

@@ -2,16 +2,18 @@
 //! there before it.
 
 use crate::calls::{Call, Outcome};
-use crate::layout::{bank, next_address, MOST_DATA_PAGES, PAGE_BYTES};
+use crate::layout::{bank, next_address, MOST_DATA_PAGES, PAGE_BYTES, WORD_BYTES};
 use crate::pages::{
-    allows, closed, deniers_of_read, holding, right, rights, setting, span, OWNER_PAGE,
+    allows, closed, denier, deniers_of_read, holding, readable_words, right, rights, setting, span,
+    CREATOR_PAGE, OWNER_PAGE,
 };
-use reference::interface::flat::{self, Controller, Operation};
+use reference::interface::flat::{self, Controller, Operation, Progress};
 use reference::model;
 
-/// One call, with the state that it met.
+/// One call, with the state that it met and the one that it left.
 pub struct Met<'a> {
     pub before: &'a Controller,
+    pub after: &'a Controller,
     pub call: &'a Call,
     pub outcome: &'a Outcome,
     /// How many fields the bench had written just before.
@@ -22,7 +24,7 @@ pub struct Met<'a> {
 
 type Situation = (&'static str, fn(&Met) -> bool);
 
-pub const SITUATIONS: [Situation; 53] = [
+pub const SITUATIONS: [Situation; 80] = [
     ("overlapping regions with other rights", |met| {
         let page = met.page();
         met.judged() && page.is_some_and(|page| overlap(met.before, page))
@@ -124,9 +126,11 @@ pub const SITUATIONS: [Situation; 53] = [
     ("contest of an information operation", |met| {
         met.contest() && met.before.progress.operation.partition == flat::INFORMATION
     }),
-    ("contest of a blank read", |met| {
-        let progress = &met.before.progress;
-        met.contest() && progress.operation.kind == flat::READ && progress.readable == 0
+    ("contest for a readable word of a denied read", |met| {
+        met.contest() && met.denied_read().is_some_and(|p| p.moved < p.readable)
+    }),
+    ("contest for the ones of a denied read", |met| {
+        met.contest() && met.denied_read().is_some_and(|p| p.moved >= p.readable)
     }),
     ("contest with a host past the end", |met| {
         let page = met.host_address() / PAGE_BYTES;
@@ -181,10 +185,6 @@ pub const SITUATIONS: [Situation; 53] = [
         let region = deniers.next().is_some_and(|first| first < 8);
         region && deniers.any(|later| later == flat::BY_DEFAULT)
     }),
-    ("info read denied past its first page", |met| {
-        let deniers = met.deniers();
-        met.info_operation().is_some() && deniers.first() == Some(&None)
-    }),
     ("read denied by a setting, then the seed lock", |met| {
         let mut deniers = met.deniers().into_iter().flatten();
         let setting = deniers.next() == Some(flat::BY_PAGE_SETTING);
@@ -218,7 +218,120 @@ pub const SITUATIONS: [Situation; 53] = [
         let right = right(flat::PAGE_ERASE);
         erase.is_some_and(|o| rights(met.before, o.address / PAGE_BYTES) & right != 0)
     }),
+    ("denied read started with readable words", |met| {
+        let start = matches!(met.call, Call::Start { .. });
+        start && met.cut(|cut| cut.readable > 0)
+    }),
+    ("whole read of readable words, then ones", |met| {
+        let whole = matches!(met.call, Call::Run { .. });
+        whole && met.cut(|cut| cut.readable > 0)
+    }),
+    ("read denied at its first of several pages", |met| {
+        met.cut(|cut| cut.pages_before() == 0 && cut.over_pages())
+    }),
+    ("read denied at its second page", |met| {
+        met.cut(|cut| cut.pages_before() == 1)
+    }),
+    ("read denied at its third page", |met| {
+        met.cut(|cut| cut.pages_before() == 2)
+    }),
+    ("read denied at its fourth page", |met| {
+        met.cut(|cut| cut.pages_before() == 3)
+    }),
+    ("read denied at its fifth page", |met| {
+        met.cut(|cut| cut.pages_before() == 4)
+    }),
+    ("read denied at its second word", |met| {
+        met.cut(|cut| cut.readable == 1)
+    }),
+    ("read denied at its last word", |met| {
+        met.cut(|cut| cut.readable > 0 && cut.readable + 1 == cut.read.count)
+    }),
+    ("allowed page after the denied one", |met| {
+        let mut after = met.deniers().into_iter().skip_while(Option::is_none);
+        after.any(|denier| denier.is_none())
+    }),
+    ("allowed pages before and after the denied one", |met| {
+        let deniers = met.deniers();
+        let mut after = deniers.iter().skip_while(|denier| denier.is_none());
+        deniers.first() == Some(&None) && after.any(Option::is_none)
+    }),
+    ("read cut at the bank border", |met| {
+        met.cut_data_read(|cut| cut.readable > 0 && cut.page == met.before.data_pages)
+    }),
+    ("read cut before the bank border it runs over", |met| {
+        let over = |cut: &Cut| met.over_border((cut.page, span(&cut.read).1));
+        met.cut_data_read(|cut| cut.readable > 0 && over(cut))
+    }),
+    ("read cut past the bank border it runs over", |met| {
+        let over = |cut: &Cut| met.over_border((span(&cut.read).0, cut.page - 1));
+        met.cut_data_read(|cut| cut.readable > 0 && over(cut))
+    }),
+    ("type 0 read cut past its first page", |met| {
+        met.cut_info_read(|cut| cut.readable > 0 && cut.read.info_type == 0)
+    }),
+    ("type 2 read cut past its first page", |met| {
+        met.cut_info_read(|cut| cut.readable > 0 && cut.read.info_type == 2)
+    }),
+    ("read cut at the closed creator page", |met| {
+        met.cut_at_creator_page(|_| true)
+    }),
+    ("read cut there, the owner page open behind it", |met| {
+        let open = !closed(met.before, 0, OWNER_PAGE);
+        open && met.cut_at_creator_page(|read| span(read).1 >= OWNER_PAGE)
+    }),
+    ("recorded address not the operation's own", |met| {
+        met.asked(|o| met.after.last_address != o.address) && met.answer(9)
+    }),
+    ("one readable word too many broken alone", |met| {
+        met.wrong_readable(|progress, right| progress.readable == right + 1)
+    }),
+    ("one readable word too few broken alone", |met| {
+        met.wrong_readable(|progress, right| Some(progress.readable) == right.checked_sub(1))
+    }),
+    ("no readable word, wrongly, broken alone", |met| {
+        met.wrong_readable(|progress, _| progress.readable == 0)
+    }),
+    ("all words readable, wrongly, broken alone", |met| {
+        met.wrong_readable(|progress, _| progress.readable == progress.operation.count)
+    }),
+    ("step that moves a denied read's readable word", |met| {
+        met.moves_of_denied_read(|progress| progress.moved < progress.readable)
+    }),
+    ("step that moves its first denied word", |met| {
+        met.moves_of_denied_read(|p| p.moved > 0 && p.moved == p.readable)
+    }),
+    ("step that moves ones of an allowed page", |met| {
+        met.moves_of_denied_read(|progress| {
+            let page = next_address(progress) / PAGE_BYTES;
+            let allowed = denier(met.before, &progress.operation, page).is_none();
+            progress.moved >= progress.readable && allowed
+        })
+    }),
+    ("denied read by all its steps", |met| {
+        let finished = met.outcome.movement == flat::MOVEMENT_FINISHED;
+        finished && met.moves_of_denied_read(|p| p.readable > 0 && met.stepped == Some(p.moved))
+    }),
 ];
+
+/// A read that is denied past 5 and 7.
+struct Cut {
+    read: Operation,
+    readable: u32,
+    /// The first denied one.
+    page: u32,
+}
+
+impl Cut {
+    fn pages_before(&self) -> u32 {
+        self.page - span(&self.read).0
+    }
+
+    fn over_pages(&self) -> bool {
+        let (first, last) = span(&self.read);
+        first < last
+    }
+}
 
 impl Met<'_> {
     fn answer(&self, number: u32) -> bool {
@@ -252,6 +365,59 @@ impl Met<'_> {
     fn deniers(&self) -> Vec<Option<u32>> {
         let read = self.operation(flat::READ).filter(|_| self.answer(9));
         read.map_or(Vec::new(), |read| deniers_of_read(self.before, &read))
+    }
+
+    /// A read is denied and cut so.
+    fn cut(&self, is: impl Fn(&Cut) -> bool) -> bool {
+        let read = self.operation(flat::READ).filter(|_| self.answer(9));
+        read.is_some_and(|read| {
+            let readable = readable_words(self.before, &read).expect("it is denied");
+            let page = (read.address + WORD_BYTES * readable) / PAGE_BYTES;
+            is(&Cut {
+                read,
+                readable,
+                page,
+            })
+        })
+    }
+
+    fn cut_data_read(&self, is: impl Fn(&Cut) -> bool) -> bool {
+        self.cut(|cut| cut.read.partition == flat::DATA && is(cut))
+    }
+
+    fn cut_info_read(&self, is: impl Fn(&Cut) -> bool) -> bool {
+        self.cut(|cut| cut.read.partition == flat::INFORMATION && is(cut))
+    }
+
+    /// The seed lock cuts a read that begins on the page before.
+    fn cut_at_creator_page(&self, is: impl Fn(&Operation) -> bool) -> bool {
+        let seed_lock = self.outcome.decider == Some(flat::BY_SEED_LOCK);
+        let there = |cut: &Cut| cut.readable > 0 && cut.page == CREATOR_PAGE;
+        seed_lock && self.cut_info_read(|cut| there(cut) && is(&cut.read))
+    }
+
+    /// The denied read that is in progress.
+    fn denied_read(&self) -> Option<&Progress> {
+        let progress = &self.before.progress;
+        let read = progress.running == 1 && progress.operation.kind == flat::READ;
+        (read && progress.readable < progress.operation.count).then_some(progress)
+    }
+
+    /// A step, alone or in a round, moves a word of a denied read.
+    fn moves_of_denied_read(&self, is: impl Fn(&Progress) -> bool) -> bool {
+        let movement = self.outcome.movement;
+        let moves = [flat::MOVEMENT_MOVED, flat::MOVEMENT_FINISHED].contains(&movement);
+        moves && self.denied_read().is_some_and(is)
+    }
+
+    /// The one field written leaves a read with another number of readable words than the right one.
+    fn wrong_readable(&self, is: impl Fn(&Progress, u32) -> bool) -> bool {
+        let progress = &self.before.progress;
+        let wrong = |right| progress.readable != right && is(progress, right);
+        self.broken()
+            && self.writes == 1
+            && progress.running == 1
+            && readable_words(self.before, &progress.operation).is_some_and(wrong)
     }
 
     /// An information operation that is judged by its pages.

@@ -4,6 +4,7 @@
 use crate::arguments::Arguments;
 use crate::bench::{Start, Write};
 use crate::layout::{words_to_move, MOST_DATA_PAGES, PAGE_BYTES};
+use crate::pages::readable_words;
 use crate::rng::Rng;
 use reference::interface::{fields, flat};
 use reference::model::Controller;
@@ -153,14 +154,37 @@ pub fn settings_written(rng: &mut Rng, c: &flat::Controller) -> Vec<Write> {
     writes_between(c, &settled)
 }
 
-/// The operation in progress is near its end.
+/// The operation in progress is near its end or, of a denied read, near its first denied word.
 pub fn near_its_end(rng: &mut Rng, c: &flat::Controller) -> Vec<Write> {
     let mut near = *c;
     let words = words_to_move(c.data_pages, &c.progress.operation);
+    let denied_read = c.progress.operation.kind == flat::READ && c.progress.readable < words;
+    let goal = if denied_read && rng.percent(50) {
+        c.progress.readable
+    } else {
+        words
+    };
     let queued = c.program_queue.length;
     let left = rng.between(1, 4).max(queued);
-    near.progress.moved = words.saturating_sub(left).max(c.progress.moved);
+    near.progress.moved = goal.saturating_sub(left).max(c.progress.moved);
     writes_between(c, &near)
+}
+
+/// Another number of readable words, of the read in progress.
+pub fn readable_written(rng: &mut Rng, c: &flat::Controller) -> Vec<Write> {
+    let mut written = *c;
+    written.progress.readable = other_readable(rng, &c.progress, c.progress.readable);
+    writes_between(c, &written)
+}
+
+/// One off the right number, none or all.
+fn other_readable(rng: &mut Rng, progress: &flat::Progress, right: u32) -> u32 {
+    match rng.below(4) {
+        0 => right.wrapping_sub(1),
+        1 => right.wrapping_add(1),
+        2 => 0,
+        _ => progress.operation.count,
+    }
 }
 
 /// Some fields with other values: one alone, or several at once.
@@ -236,11 +260,11 @@ pub fn progress_written(rng: &mut Rng, c: &flat::Controller, state: &Controller)
         3 => rng.below(words.clamp(1, 4096)),
         _ => 0,
     };
+    let right = readable_words(c, &operation).unwrap_or(operation.count);
     written.progress.readable = match rng.below(8) {
-        0 => operation.count.wrapping_sub(1),
-        1 => rng.word(),
-        2..=4 => 0,
-        _ => operation.count,
+        0 => rng.word(),
+        1..=3 => other_readable(rng, &written.progress, right),
+        _ => right,
     };
     let left = words.wrapping_sub(written.progress.moved);
     written.program_queue.length = match rng.below(6) {

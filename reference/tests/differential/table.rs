@@ -158,21 +158,24 @@ pub fn broken_rule(call: &Call, outcome: &Outcome) -> Option<String> {
     })
 }
 
-/// What a step works on. A blank read moves words of its own.
+/// What a step works on. A denied read moves its readable words, then ones.
 #[derive(Clone, Copy, Debug, PartialEq, Eq)]
 enum Work {
     Read,
-    BlankRead,
+    ReadableWords,
+    Ones,
     Program,
     PageErase,
     DataBankErase,
     FullBankErase,
 }
 
-/// The movements of each work that 01's "Steps" tells: an erase never waits.
-const WORKS: [(Work, &str, &[u32]); 6] = [
+/// The movements of each work that 01's "Steps" tells: an erase never waits, and
+/// a denied read ends with ones.
+const WORKS: [(Work, &str, &[u32]); 7] = [
     (Work::Read, "read", &[1, 2, 3]),
-    (Work::BlankRead, "blank read", &[1, 2, 3]),
+    (Work::ReadableWords, "denied, readable", &[1, 3]),
+    (Work::Ones, "denied, ones", &[1, 2, 3]),
     (Work::Program, "program", &[1, 2, 3]),
     (Work::PageErase, "page erase", &[1, 2]),
     (Work::DataBankErase, "bank erase, data", &[1, 2]),
@@ -185,8 +188,9 @@ fn work_of(progress: &flat::Progress) -> Option<Work> {
         return None;
     }
     match (progress.operation.kind, progress.operation.partition) {
-        (flat::READ, _) if progress.readable == 0 => Some(Work::BlankRead),
-        (flat::READ, _) => Some(Work::Read),
+        (flat::READ, _) if progress.readable == progress.operation.count => Some(Work::Read),
+        (flat::READ, _) if progress.moved < progress.readable => Some(Work::ReadableWords),
+        (flat::READ, _) => Some(Work::Ones),
         (flat::PROGRAM, _) => Some(Work::Program),
         (flat::PAGE_ERASE, _) => Some(Work::PageErase),
         (flat::BANK_ERASE, flat::DATA) => Some(Work::DataBankErase),
@@ -377,11 +381,11 @@ fn what_01_does_not_allow_is_told() {
     assert!(broken_rule(&round, &unexpected(flat::TURN_WAITING)).is_none());
 }
 
-/// 89 pairs but for the one that cannot be met, 15 movements and 247 D; after many calls the situations and deciders too.
+/// 89 pairs but for the one that cannot be met, 17 movements and 247 D; after many calls the situations and deciders too.
 #[test]
 fn what_was_never_met_is_told() {
     let mut tally = Tally::new();
-    let always = 88 + 15 + 247;
+    let always = 88 + 17 + 247;
     assert_eq!(tally.never_met().len(), always);
     let before = flat::Controller {
         data_pages: 256,
@@ -389,6 +393,7 @@ fn what_was_never_met_is_told() {
     };
     tally.count(&Met {
         before: &before,
+        after: &before,
         call: &Call::Pop,
         outcome: &Outcome::answer(10),
         writes: 0,

@@ -1,4 +1,5 @@
-//! 01's "Slips we have seen on other benches": none of them is made here.
+//! 01's "Slips we have seen on other benches", the last as 02's L3 changes it:
+//! none of them is made here.
 
 use crate::helpers::*;
 use reference::model::*;
@@ -57,4 +58,15 @@ fn the_read_right_is_judged_on_every_page_of_a_span() {
     assert_eq!(start_answer(&c, data(READ, 2 * 1024 + 1020, 2)), DENIED);
     assert_eq!(start_answer(&c, data(READ, 1024, 512)), NONE);
     assert_eq!(start_answer(&c, data(READ, 4 * 1024, 1_024)), NONE);
+}
+
+#[test]
+fn a_read_is_not_blanked_from_its_first_word_for_a_later_page() {
+    let mut c = ready();
+    assert_eq!(set_region(&mut c, 0, region(3, 1, RIGHT_PROGRAM)), NONE);
+    let (words, address) = cut_read(&c, data(READ, 1024, 1_024), &patterned());
+    let (stored, denied) = words.split_at(512);
+    assert_eq!(stored, &patterned()[256..768]);
+    assert!(denied.iter().all(|word| *word == ONES));
+    assert_eq!(address, 3 * 1024);
 }

@@ -272,6 +272,26 @@ fn a_read_is_named_by_its_first_denied_page() {
     }
 }
 
+/// Who decided and the recorded address are of one page, where the read is cut.
+#[test]
+fn the_recorded_address_is_on_the_page_that_is_named() {
+    let c = with_denied_pages();
+    for (address, count, recorded) in [
+        (PAGE, 257, 2 * PAGE),
+        (PAGE, 1_024, 2 * PAGE),
+        (2 * PAGE + 8, 1_024, 2 * PAGE + 8),
+        (3 * PAGE, 1_024, 3 * PAGE),
+        (5 * PAGE, 1_024, 6 * PAGE),
+        (5 * PAGE - 4, 2, 5 * PAGE - 4),
+        (6 * PAGE - 4, 2, 6 * PAGE),
+    ] {
+        let mut after = c.clone();
+        let decider = start(&mut after, data(READ, address, count)).decider;
+        assert_eq!(after.last_address, recorded);
+        assert_eq!(denier_of_look(&c, recorded / PAGE), decider);
+    }
+}
+
 #[test]
 fn a_read_over_the_bank_border_is_named_by_its_first_denied_page() {
     let c = with_regions(&[(6, region(16, 1, 0)), (1, region(17, 1, 0))]);

@@ -125,6 +125,40 @@ pub fn start_answer(c: &Controller, op: Operation) -> u8 {
     start(&mut c.clone(), op).refusal
 }
 
+/// How many leading words of a read may each be read alone.
+pub fn readable_words(c: &Controller, read: Operation) -> u32 {
+    let readable = |number: &u32| start_answer(c, word_alone(read, *number)) == NONE;
+    (0..read.count).take_while(readable).count() as u32
+}
+
+/// The read of one word of a read.
+fn word_alone(read: Operation, number: u32) -> Operation {
+    Operation {
+        address: read.address + 4 * number,
+        count: 1,
+        ..read
+    }
+}
+
+/// One word of a read, by a whole read of it alone that is accepted.
+pub fn read_alone(c: &Controller, read: Operation, number: u32, image: &mut [u32]) -> u32 {
+    let mut word = [7];
+    let done = whole(&mut c.clone(), word_alone(read, number), image, &mut word);
+    assert_eq!(done.refusal, NONE);
+    word[0]
+}
+
+/// What a whole read that is denied delivers and records.
+pub fn cut_read(c: &Controller, read: Operation, image: &[u32]) -> (Vec<u32>, u32) {
+    let mut c = c.clone();
+    let mut image = image.to_vec();
+    let mut buffer = vec![7; read.count as usize];
+    let done = whole(&mut c, read, &mut image, &mut buffer);
+    assert_eq!((done.refusal, done.bits), (DENIED, 0));
+    assert_eq!(c.recorded, kinds(&[9]));
+    (buffer, c.last_address)
+}
+
 /// The kinds as the record's bits.
 pub fn kinds(list: &[u8]) -> u32 {
     list.iter().map(|kind| 1 << kind).sum()

@@ -102,11 +102,7 @@ fn it_answers_every_state_alike() {
 fn it_goes_through_long_runs_alike() {
     let mut rng = Rng(0x0DD5_EED5_0F01_2345);
     for _ in 0..150 {
-        let mut c = ready();
-        set_inputs(&mut c, rng.flag(), rng.flag());
-        for number in 0..8 {
-            set_region(&mut c, number, rng.region());
-        }
+        let c = rng.with_mixed_rights();
         assert_alike(&mut rng, c, 400);
     }
 }

@@ -236,21 +236,36 @@ fn row_9_denied_is_recorded() {
     }
 }
 
-#[test]
-fn row_9_a_denied_read_is_recorded_and_starts_blank() {
-    for op in [data(READ, 0x4004, 3), info(READ, 1, 0x4004, 3)] {
-        let mut c = ready_without_rights();
-        let mut expected = c.clone();
-        expected.recorded = kinds(&[9]);
-        expected.last_address = 0x4004;
-        expected.in_progress = InProgress::Read {
-            operation: op,
+/// Recorded at its first denied word, and in progress with the words before it.
+fn assert_starts_cut(c: &Controller, operation: Operation, readable: u32, address: u32) {
+    let mut started = c.clone();
+    assert_eq!(start(&mut started, operation).refusal, 9);
+    let expected = Controller {
+        recorded: kinds(&[9]),
+        last_address: address,
+        in_progress: InProgress::Read {
+            operation,
             moved: 0,
-            readable: 0,
-        };
-        assert_eq!(start(&mut c, op).refusal, 9);
-        assert_eq!(c, expected);
+            readable,
+        },
+        ..c.clone()
+    };
+    assert_eq!(started, expected);
+}
+
+#[test]
+fn row_9_a_denied_read_is_recorded_and_starts_cut() {
+    let none = ready_without_rights();
+    for op in [data(READ, 0x4004, 3), info(READ, 1, 0x4004, 3)] {
+        assert_starts_cut(&none, op, 0, 0x4004);
     }
+    let mut c = ready();
+    assert_eq!(set_region(&mut c, 0, region(17, 1, 6)), NONE);
+    assert_eq!(set_info_page(&mut c, 1, 2, 1, InfoSetting::default()), NONE);
+    for op in [data(READ, 0x43F4, 300), info(READ, 2, 0x43F4, 259)] {
+        assert_starts_cut(&c, op, 3, 0x4400);
+    }
+    assert_starts_cut(&c, data(READ, 0x4410, 300), 0, 0x4410);
 }
 
 #[test]

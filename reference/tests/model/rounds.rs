@@ -295,6 +295,19 @@ fn a_denied_read_competes_in_the_bank_of_its_address() {
     assert_host_wins(&c, BANK_1, word(7_424), [0, 1]);
 }
 
+/// A stored word in bank 0, then ones in bank 1, whose first page is denied.
+#[test]
+fn a_cut_read_competes_for_stored_words_and_for_ones() {
+    let mut c = ready();
+    assert_eq!(set_region(&mut c, 0, region(16, 1, 6)), NONE);
+    assert_eq!(start(&mut c, data(READ, 0x3FFC, 2)).refusal, DENIED);
+    assert_host_wins(&c, 0, word(0), [1, 0]);
+    assert_steps(&c, Some(BANK_1 + 0x400), word(7_680), [0, 0]);
+    assert_eq!(step(&mut c, &mut patterned()), MOVED);
+    assert_host_wins(&c, BANK_1 + 0x400, word(7_680), [0, 1]);
+    assert_steps(&c, Some(0), word(0), [0, 0]);
+}
+
 /// Also where its words are those of the information pages behind the data pages.
 #[test]
 fn a_bank_erase_competes_in_its_bank() {

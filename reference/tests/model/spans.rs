@@ -1,5 +1,5 @@
 //! Where words lie: bank borders, ends of types and banks, the five pages a
-//! long read may touch.
+//! long read may touch, and where a denied one is cut.
 
 use crate::helpers::*;
 use reference::model::*;
@@ -40,6 +40,32 @@ fn a_read_over_the_border_is_judged_by_the_pages_of_both_banks() {
     let mut c = ready();
     assert_eq!(set_region(&mut c, 0, region(15, 1, 0)), NONE);
     assert_eq!(start_answer(&c, data(READ, 0x4000, 2)), NONE);
+}
+
+/// From the last two words of page D - 2 to the first two of page D + 1.
+#[test]
+fn a_read_over_the_border_is_cut_in_either_bank() {
+    for d in [10, 11, 16, 256] {
+        let image = patterned_for(d);
+        let read = data(READ, (d - 1) * 1024 - 8, 2 + 256 + 256 + 2);
+        for (denied_page, readable) in [(d - 2, 0), (d - 1, 2), (d, 258), (d + 1, 514)] {
+            let mut c = ready_for(d);
+            assert_eq!(set_region(&mut c, 7, region(denied_page, 1, 6)), NONE);
+            let (words, address) = cut_read(&c, read, &image);
+            let last_of_bank_0 = d * 256 - 1;
+            for (number, word) in (0..).zip(words) {
+                let place = (d - 1) * 256 - 2 + number;
+                let jump = if place > last_of_bank_0 { 13 * 256 } else { 0 };
+                let stored = if number < readable {
+                    mark(place + jump)
+                } else {
+                    ONES
+                };
+                assert_eq!(word, stored, "D = {d}, page {denied_page}, word {number}");
+            }
+            assert_eq!(address, read.address + 4 * readable);
+        }
+    }
 }
 
 #[test]
@@ -84,6 +110,49 @@ fn a_span_inside_a_type_runs_over_its_pages() {
     let words = read_words(D, info(READ, 2, 1020, 2));
     let last_of_first = 4_096 + 12 * 256 - 1;
     assert_eq!(words, [mark(last_of_first), mark(last_of_first + 1)]);
+}
+
+/// Where an information read from the last word of a page is cut: the next page is denied.
+fn assert_info_read_cut(c: &Controller, info_type: u8, page: u32, place: u32) {
+    let at = page * 1024 + 1020;
+    let read = info(READ, info_type, at, 257);
+    let (words, address) = cut_read(c, read, &patterned());
+    assert_eq!(words[0], mark(place + 255));
+    assert!(words[1..].iter().all(|word| *word == ONES));
+    assert_eq!(address, at + 4);
+}
+
+#[test]
+fn an_information_read_is_cut_at_each_denied_page() {
+    for (bank, base) in [(0, 4_096), (1, 7_424 + 4_096)] {
+        for (info_type, pages, before) in [(0, 10, 0), (2, 2, 11)] {
+            for page in 1..pages {
+                for (on, rights) in [(false, ALL_RIGHTS), (true, 6)] {
+                    let mut c = ready();
+                    let setting = InfoSetting { on, rights };
+                    assert_eq!(set_info_page(&mut c, bank, info_type, page, setting), NONE);
+                    let place = base + (before + page - 1) * 256;
+                    assert_info_read_cut(&c, info_type, bank * D + page - 1, place);
+                }
+            }
+        }
+    }
+}
+
+/// Creator page 1 and owner page 2; their settings allow reading.
+#[test]
+fn a_closed_seed_page_cuts_a_read() {
+    let mut c = ready();
+    assert_eq!(set_inputs(&mut c, true, true), NONE);
+    assert_info_read_cut(&c, 0, 0, 4_096);
+    // It begins on the creator page, so the open owner page gives ones as well.
+    let (words, address) = cut_read(&c, info(READ, 0, 0x7FC, 2), &patterned());
+    assert_eq!((words, address), (vec![ONES; 2], 0x7FC));
+    assert_eq!(start_answer(&c, info(READ, 0, 0x800, 256)), NONE);
+    assert_eq!(set_inputs(&mut c, false, false), NONE);
+    assert_info_read_cut(&c, 0, 0, 4_096);
+    let (words, address) = cut_read(&c, info(READ, 0, 0xBFC, 2), &patterned());
+    assert_eq!((words, address), (vec![ONES; 2], 0xBFC));
 }
 
 #[test]

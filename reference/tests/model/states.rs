@@ -180,14 +180,18 @@ fn an_operation_is_in_progress_only_when_ready() {
     }
 }
 
-fn with_read(operation: Operation, moved: u32, readable: u32) -> Controller {
-    changed(ready(), |c| {
+fn reading(c: Controller, operation: Operation, moved: u32, readable: u32) -> Controller {
+    changed(c, |c| {
         c.in_progress = InProgress::Read {
             operation,
             moved,
             readable,
         }
     })
+}
+
+fn with_read(operation: Operation, moved: u32, readable: u32) -> Controller {
+    reading(ready(), operation, moved, readable)
 }
 
 fn with_program(operation: Operation, moved: u32, queued: u32) -> Controller {
@@ -239,7 +243,7 @@ fn an_operation_in_progress_has_its_own_kind() {
     }
 }
 
-/// As a read, blank or not, and as a program.
+/// As a read, with all its words readable or none, and as a program.
 fn assert_never_in_progress(read: Operation) {
     assert_broken(&with_read(read, 0, read.count));
     assert_broken(&with_read(read, 0, 0));
@@ -288,25 +292,65 @@ fn an_operation_in_progress_passes_7_and_8() {
 }
 
 #[test]
-fn an_operation_in_progress_passes_9_and_a_denied_read_is_blank() {
+fn a_program_or_erase_in_progress_passes_9() {
     let without_rights = |c| {
         changed(c, |c| {
             c.default_rights = 0;
             c.bank_erase_permissions = [false; 2];
         })
     };
-    let read = data(READ, 0, 4);
-    assert_valid(&with_read(read, 1, 4));
-    assert_broken(&with_read(read, 1, 0));
-    assert_broken(&without_rights(with_read(read, 1, 4)));
-    assert_valid(&without_rights(with_read(read, 1, 0)));
-    for readable in [1, 3, 5, u32::MAX] {
-        assert_broken(&with_read(read, 1, readable));
-        assert_broken(&without_rights(with_read(read, 1, readable)));
-    }
     assert_broken(&without_rights(with_program(data(PROGRAM, 0, 4), 0, 0)));
     assert_broken(&without_rights(with_erase(data(PAGE_ERASE, 0, 4), 0)));
     assert_broken(&without_rights(with_erase(data(BANK_ERASE, 0, 4), 0)));
+}
+
+/// However many words have moved, and no other number than this.
+fn assert_readable(c: &Controller, read: Operation, readable: u32) {
+    let n = read.count;
+    for moved in [0, readable.min(n - 1), n - 1] {
+        assert_valid(&reading(c.clone(), read, moved, readable));
+    }
+    let (over, under) = (readable + 1, readable.wrapping_sub(1));
+    for other in [over, under, 0, 1, n - 1, n, n + 1, u32::MAX] {
+        if other != readable {
+            assert_broken(&reading(c.clone(), read, 1, other));
+        }
+    }
+}
+
+#[test]
+fn a_read_in_progress_holds_the_number_of_its_readable_words() {
+    assert_readable(&ready(), data(READ, 0, 4), 4);
+    assert_readable(&ready_without_rights(), data(READ, 0, 4), 0);
+    let mut c = ready();
+    assert_eq!(set_region(&mut c, 2, region(15, 2, 6)), NONE);
+    assert_readable(&c, data(READ, 13 * 1024, 512), 512);
+    assert_readable(&c, data(READ, 13 * 1024, 513), 512);
+    assert_readable(&c, data(READ, 14 * 1024 + 1_016, 1_000), 2);
+    assert_readable(&c, data(READ, 15 * 1024 + 1_016, 1_000), 0);
+    assert_readable(&c, data(READ, 17 * 1024, 1_000), 1_000);
+    assert_readable(&c, info(READ, 0, 0, 1_024), 1_024);
+    assert_eq!(set_inputs(&mut c, true, true), NONE);
+    assert_readable(&c, info(READ, 0, 0, 1_024), 256);
+    assert_eq!(set_info_page(&mut c, 1, 2, 1, InfoSetting::default()), NONE);
+    assert_readable(&c, info(READ, 2, 0x43FC, 257), 1);
+    assert_readable(&c, info(READ, 2, 0x03FC, 257), 257);
+}
+
+/// The number is reckoned from the state's own settings and inputs.
+#[test]
+fn a_read_in_progress_is_judged_by_the_settings_that_stand_there() {
+    let read = with_read(info(READ, 0, 0x3FC, 2), 1, 2);
+    assert_valid(&read);
+    assert_broken(&changed(read.clone(), |c| c.seeds_locked = true));
+    assert_broken(&changed(read.clone(), |c| c.provision_enabled = false));
+    assert_broken(&changed(read, |c| c.info_settings[1].on = false));
+    let read = with_read(data(READ, 0x3FFC, 2), 1, 2);
+    for (page, readable) in [(15, 0), (16, 1)] {
+        let denied = changed(read.clone(), |c| c.regions[5] = region(page, 1, 6));
+        assert_broken(&denied);
+        assert_valid(&reading(denied, data(READ, 0x3FFC, 2), 1, readable));
+    }
 }
 
 #[test]

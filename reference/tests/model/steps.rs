@@ -163,30 +163,35 @@ fn pops_are_allowed_while_a_program_or_erase_runs() {
     assert_eq!(pop(&mut c).word, mark(1));
 }
 
+/// The state that the read is in after some of its steps.
+fn assert_reading(c: &Controller, operation: Operation, moved: u32, readable: u32) {
+    let expected = InProgress::Read {
+        operation,
+        moved,
+        readable,
+    };
+    assert_eq!(c.in_progress, expected);
+}
+
+/// Two words lie before the denied page.
 #[test]
-fn a_blank_read_delivers_n_words_of_ones_and_touches_no_page() {
+fn a_denied_read_delivers_its_readable_words_and_then_ones() {
     let mut c = ready();
     assert_eq!(set_region(&mut c, 0, region(1, 1, 6)), NONE);
     let op = data(READ, 0x3F8, 20);
     assert_eq!(start(&mut c, op).refusal, DENIED);
-    assert_eq!(
-        c.in_progress,
-        InProgress::Read {
-            operation: op,
-            moved: 0,
-            readable: 0
-        }
-    );
-    assert_eq!((c.recorded, c.last_address), (kinds(&[9]), 0x3F8));
-    let mut image = vec![0; image_words(D) as usize];
-    for _ in 0..16 {
+    assert_eq!((c.recorded, c.last_address), (kinds(&[9]), 0x400));
+    let mut image = patterned();
+    for moved in 0..16 {
+        assert_reading(&c, op, moved, 2);
         assert_eq!(step(&mut c, &mut image), MOVED);
     }
     assert_eq!(step(&mut c, &mut image), WAITING);
-    for _ in 0..4 {
-        assert_eq!(pop(&mut c).word, ONES);
+    for word in [mark(254), mark(255), ONES, ONES] {
+        assert_eq!(pop(&mut c).word, word);
     }
-    for _ in 0..3 {
+    for moved in 16..19 {
+        assert_reading(&c, op, moved, 2);
         assert_eq!(step(&mut c, &mut image), MOVED);
     }
     assert_eq!(step(&mut c, &mut image), FINISHED);
@@ -194,7 +199,33 @@ fn a_blank_read_delivers_n_words_of_ones_and_touches_no_page() {
         assert_eq!(pop(&mut c).word, ONES);
     }
     assert_eq!(pop(&mut c).refusal, QUEUE_EMPTY);
-    assert!(image.iter().all(|w| *w == 0));
+    assert!(image == patterned());
+    assert_eq!((c.recorded, c.last_address), (kinds(&[9]), 0x400));
+}
+
+/// Also the words of the next page, which may be read.
+#[test]
+fn a_read_denied_at_its_first_page_delivers_only_ones() {
+    let mut c = ready();
+    assert_eq!(set_region(&mut c, 0, region(0, 1, 6)), NONE);
+    let op = data(READ, 0x3F8, 4);
+    assert_eq!(start(&mut c, op).refusal, DENIED);
+    assert_reading(&c, op, 0, 0);
+    assert_eq!((c.recorded, c.last_address), (kinds(&[9]), 0x3F8));
+    assert_eq!(step_to_the_end(&mut c, &mut patterned()), (4, 0));
+    assert_eq!(c.read_queue.words[..4], [ONES; 4]);
+}
+
+/// The error is there once it has started, and clearing it changes no word.
+#[test]
+fn a_denied_read_records_at_its_start_only() {
+    let mut c = ready();
+    assert_eq!(set_region(&mut c, 0, region(1, 1, 6)), NONE);
+    assert_eq!(start(&mut c, data(READ, 0x3FC, 3)).refusal, DENIED);
+    assert_eq!(clear(&mut c), NONE);
+    step_to_the_end(&mut c, &mut patterned());
+    assert_eq!((c.recorded, c.last_address), (0, 0));
+    assert_eq!(c.read_queue.words[..3], [mark(255), ONES, ONES]);
 }
 
 #[test]

@@ -64,7 +64,7 @@ fn whole_erases_leave_the_buffer_alone() {
 }
 
 #[test]
-fn a_denied_whole_read_gives_9_and_n_words_of_ones() {
+fn a_denied_whole_read_gives_9_with_its_readable_words_and_then_ones() {
     let mut c = ready();
     assert_eq!(set_region(&mut c, 0, region(1, 1, 6)), NONE);
     let mut expected = c.clone();
@@ -79,12 +79,59 @@ fn a_denied_whole_read_gives_9_and_n_words_of_ones() {
             bits: 0
         }
     );
-    assert!(buffer[..500].iter().all(|w| *w == ONES));
+    assert_eq!(buffer[..4], [252, 253, 254, 255].map(mark));
+    assert!(buffer[4..500].iter().all(|w| *w == ONES));
     assert!(buffer[500..].iter().all(|w| *w == 3));
     assert!(image == patterned());
     expected.recorded = kinds(&[9]);
-    expected.last_address = 0x3F0;
+    expected.last_address = 0x400;
     assert_eq!(c, expected);
+}
+
+/// From the last word of page 1 to the third of page 5.
+#[test]
+fn a_read_of_five_pages_is_cut_at_each_of_them() {
+    let read = data(READ, 0x7FC, 1 + 3 * 256 + 3);
+    for (denied_page, readable, address) in [
+        (1, 0, 0x7FC),
+        (2, 1, 0x800),
+        (3, 257, 0xC00),
+        (4, 513, 0x1000),
+        (5, 769, 0x1400),
+    ] {
+        let mut c = ready();
+        assert_eq!(set_region(&mut c, 4, region(denied_page, 1, 6)), NONE);
+        let (words, recorded) = cut_read(&c, read, &patterned());
+        assert_eq!(words[..readable], patterned()[511..511 + readable]);
+        assert!(words[readable..].iter().all(|word| *word == ONES));
+        assert_eq!(recorded, address);
+    }
+}
+
+/// Every page after the first denied one gives ones, whatever it allows.
+#[test]
+fn of_two_denied_pages_the_first_cuts() {
+    let mut c = ready();
+    assert_eq!(set_region(&mut c, 0, region(4, 1, 0)), NONE);
+    assert_eq!(set_region(&mut c, 1, region(2, 1, 0)), NONE);
+    let (words, address) = cut_read(&c, data(READ, 0x400, 1_024), &patterned());
+    assert_eq!(words[..256], patterned()[256..512]);
+    assert!(words[256..].iter().all(|word| *word == ONES));
+    assert_eq!(address, 0x800);
+}
+
+/// Two images that agree at the readable words alone.
+#[test]
+fn a_denied_read_tells_nothing_of_its_other_words() {
+    let mut c = ready();
+    assert_eq!(set_region(&mut c, 0, region(2, 1, 6)), NONE);
+    let read = data(READ, 0x7F0, 600);
+    let mut other: Vec<u32> = patterned().iter().map(|word| !word).collect();
+    other[508..512].copy_from_slice(&patterned()[508..512]);
+    let told = cut_read(&c, read, &patterned());
+    assert_eq!(cut_read(&c, read, &other), told);
+    other[511] ^= 1;
+    assert_ne!(cut_read(&c, read, &other), told);
 }
 
 #[test]

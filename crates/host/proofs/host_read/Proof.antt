@@ -1,7 +1,6 @@
 -- `host::host_read` meets its contract. Assumes nothing.
 use mathlib.Core.Path.{_≡_, sym, _∙_}
 use borrow.Author.Tests.{not-true, not-false}
-use borrow.Author.Needs.{needs}
 use Rattle.model.specs.State.{flash}
 use Rattle.model.specs.Refusals.{accepts}
 use Rattle.model.specs.Host.{hostAnswer}
@@ -25,15 +24,14 @@ host-read-spec =
     (λ c. let t = c .before in rw (c .told-word .ensures, t .before .before .host-answer .ensures) (read-refused _ _ _ (sym (asked (t .before)) ∙ not-true _ (t .if1 .taken))))
     (λ c κs. tt)
     (λ c κs. rw (c .pages .ensures) (read-inside _ _ _ (sym (asked (c .before .before)) ∙ not-false _ (c .before .if1 .left)) .0))
-    (λ c. search needs)
-    (λ c. search needs)
-    (λ c. let w = c .before .before in rw (w .word-at .ensures, w .before .pages .ensures) (read-inside _ _ _ (sym (asked (w .before .before .before)) ∙ not-false _ (w .before .before .if1 .left)) .1))
+    (λ c κs. rw (c .word-at .ensures, c .before .pages .ensures) (read-inside _ _ _ (sym (asked (c .before .before .before)) ∙ not-false _ (c .before .before .if1 .left)) .1))
     (λ c κs. tt)
     (λ c.
-    let w = c .before .before .before in
+    let w = c .before .before in
     let t = w .before .before in
     rw (
       c .told-word2 .ensures,
+      c .before .delivered .ensures,
       w .word-at .ensures,
       w .before .pages .ensures,
       t .before .before .host-answer .ensures,

@@ -7,10 +7,9 @@ use Rattle.operations.proofs.started.Tie as tie
 pub started-spec : {M : Type 1} → statement M
 started-spec =
     tie.close (tie.spec
-    (λ c κs. tt)
-    (λ c κs. tt)
+    (λ c κs. c .before .pre .answered)
     (λ c κs. search needs)
     (λ c κs. tt)
     (λ c.
-    rw (c .put-errors .ensures, c .before .before .begin .ensures, c .before .before .before .before .recorded .ensures, c .before .before .before .before .before .errors .ensures)
-    (begin-records (c .before .before .before .before .before .before .before .before .pre))))
+    rw (c .put-errors .ensures, c .before .before .begin .ensures, c .before .before .before .before .recorded .ensures)
+    (begin-records (c .before .before .before .before .before .before .pre))))

@@ -7,5 +7,4 @@ starts-spec =
     tie.close (tie.spec
     (λ c κs. tt)
     (λ c κs. tt)
-    (λ c κs. tt)
-    (λ c. simp (c .is-denied .ensures, c .before .accepts .ensures, c .before .before .is-read .ensures)))
+    (λ c. simp (c .is-denied-read .ensures, c .before .accepts .ensures)))

@@ -1,6 +1,6 @@
 -- `whole::short_buffer` meets its contract. Assumes nothing.
 use borrow.Author.Needs.{needs}
-use Rattle.whole.proofs.Checked.{formed}
+use Rattle.model.proofs.Checks.{formed}
 use Rattle.whole.proofs.short_buffer.Statement.{statement}
 use Rattle.whole.proofs.short_buffer.Tie as tie
 

@@ -5,7 +5,7 @@ mod footprint;
 mod trials;
 
 use crate::layout::words_of;
-use footprint::{footprint, keep_apart, Footprint};
+use footprint::{footprint, keep_apart, Denied, Footprint};
 use reference::interface::{
     asked_operation, calls as library, fields, flat, from_reference, to_reference,
 };
@@ -50,27 +50,44 @@ struct Ended {
 
 // -- the claim -----------------------------------------------------------
 
-/// None if the premise does not hold; else whether both lists wrote, or how the claim fails.
-fn claim(beginning: &Beginning, shuffle: &[Item]) -> Option<Result<bool, String>> {
-    let [left, right] = [List::Left, List::Right].map(|list| of(shuffle, list));
-    let alone = [&left, &right].map(|items| on_second(beginning, items));
-    let data_pages = beginning.controller.data_pages;
-    let footprints = [
-        footprint(data_pages, &left, &alone[0]),
-        footprint(data_pages, &right, &alone[1]),
-    ];
-    if !keep_apart(&footprints[0], &footprints[1]) {
+/// How the premise holds.
+#[derive(Clone, Copy, Debug, PartialEq, Eq)]
+struct Apart {
+    /// Both lists program or erase.
+    both_write: bool,
+    /// It would not hold if denied reads with readable words went on to their end.
+    by_a_cut: bool,
+}
+
+/// None if the premise does not hold; else how it does, or how the claim fails.
+fn claim(beginning: &Beginning, shuffle: &[Item]) -> Option<Result<Apart, String>> {
+    let lists = [List::Left, List::Right].map(|list| of(shuffle, list));
+    let alone = lists.each_ref().map(|items| on_second(beginning, items));
+    let touched = footprints(beginning, &lists, &alone, Denied::Cut);
+    if !keep_apart(&touched) {
         return None;
     }
-    let wrote = footprints
-        .iter()
-        .all(|footprint| !footprint.written.is_empty());
+    let to_their_end = footprints(beginning, &lists, &alone, Denied::Whole);
+    let apart = Apart {
+        both_write: touched.iter().all(|list| !list.written.is_empty()),
+        by_a_cut: !keep_apart(&to_their_end),
+    };
     let shuffled = on_model(beginning, shuffle);
-    let holds = check_alone(beginning, &left, &alone[0])
-        .and_then(|()| check_alone(beginning, &right, &alone[1]))
+    let holds = check_alone(beginning, &lists[0], &alone[0])
+        .and_then(|()| check_alone(beginning, &lists[1], &alone[1]))
         .and_then(|()| check_given(shuffle, &shuffled, &alone))
-        .and_then(|()| check_end(beginning, &shuffled, &alone, &footprints));
-    Some(holds.map(|()| wrote))
+        .and_then(|()| check_end(beginning, &shuffled, &alone, &touched));
+    Some(holds.map(|()| apart))
+}
+
+fn footprints(
+    beginning: &Beginning,
+    lists: &[Vec<Item>; 2],
+    alone: &[Ended; 2],
+    denied: Denied,
+) -> [Footprint; 2] {
+    let of = |list: usize| footprint(&beginning.controller, &lists[list], &alone[list], denied);
+    [of(0), of(1)]
 }
 
 fn of(shuffle: &[Item], list: List) -> Vec<Item> {
@@ -83,7 +100,7 @@ fn check_alone(beginning: &Beginning, items: &[Item], second: &Ended) -> Result<
     let model = on_model(beginning, items);
     let alike = model.given == second.given
         && model.image == second.image
-        && model.controller.recorded == second.controller.recorded;
+        && model.controller == second.controller;
     require(alike, || {
         "a list alone: the two programs disagree".to_owned()
     })
@@ -93,12 +110,21 @@ fn check_alone(beginning: &Beginning, items: &[Item], second: &Ended) -> Result<
 fn check_given(shuffle: &[Item], shuffled: &Ended, alone: &[Ended; 2]) -> Result<(), String> {
     let mut own = alone.each_ref().map(|ended| ended.given.iter());
     for (place, (item, given)) in shuffle.iter().zip(&shuffled.given).enumerate() {
-        let expected = own[item.list as usize].next();
-        require(expected == Some(given), || {
-            format!("operation {place} gives {given:?}, alone {expected:?}")
+        let expected = own[item.list as usize].next().expect("it ran alone");
+        require(expected == given, || {
+            format!("operation {place} gives {}", difference(given, expected))
         })?;
     }
     Ok(())
+}
+
+fn difference(given: &Given, alone: &Given) -> String {
+    let mut words = given.buffer.iter().zip(&alone.buffer);
+    let differs = words.position(|(given, alone)| given != alone);
+    format!(
+        "{:?}, alone {:?}; the first word that differs: {differs:?}",
+        given.done, alone.done
+    )
 }
 
 /// A written page ends as its list alone leaves it, every other page as it
@@ -235,6 +261,38 @@ fn the_premise_is_about_the_pages_that_are_written() {
     assert!(holds((flat::PROGRAM, 0x400), (flat::PROGRAM, 0x7FD)));
 }
 
+/// Pages 1 and 3 may be read and programmed, page 2 only programmed.
+#[test]
+fn a_denied_read_reads_its_pages_before_the_first_denied_one() {
+    let mut beginning = erased_with_all_rights();
+    beginning.controller.regions[0] = flat::Region {
+        first_page: 2,
+        page_count: 1,
+        on: 1,
+        rights: 6,
+    };
+    let apart = |address, count, program| {
+        let mut read = item(List::Left, flat::READ, address);
+        read.operation.count = count;
+        read.buffer = vec![0; count as usize];
+        let shuffle = [item(List::Right, flat::PROGRAM, program), read];
+        let holds = claim(&beginning, &shuffle)?;
+        Some(holds.expect("the claim").by_a_cut)
+    };
+    // Of the page before the denied one, the denied one, and the one after it.
+    assert_eq!(apart(0x7FC, 300, 0x400), None);
+    assert_eq!(apart(0x7FC, 300, 0x800), Some(true));
+    assert_eq!(apart(0x7FC, 300, 0xC00), Some(true));
+    assert_eq!(apart(0x7FC, 2, 0xC00), Some(false));
+    assert_eq!(apart(0x800, 300, 0x800), Some(false));
+    assert_eq!(apart(0x800, 300, 0xC00), Some(false));
+    // With a buffer too short it does not start.
+    let mut short = item(List::Left, flat::READ, 0x7FC);
+    short.operation.count = 300;
+    let shuffle = [item(List::Right, flat::PROGRAM, 0x400), short];
+    assert!(claim(&beginning, &shuffle).is_some());
+}
+
 /// A shuffle that gives, leaves or records anything else does not pass.
 #[test]
 fn a_wrong_end_is_told() {
@@ -246,17 +304,14 @@ fn a_wrong_end_is_told() {
         item(List::Left, 9, 0),
         item(List::Right, flat::BANK_ERASE, 0x2800),
     ];
-    let [left, right] = [List::Left, List::Right].map(|list| of(&shuffle, list));
-    let alone = [&left, &right].map(|items| on_second(&beginning, items));
-    let footprints = [
-        footprint(10, &left, &alone[0]),
-        footprint(10, &right, &alone[1]),
-    ];
+    let lists = [List::Left, List::Right].map(|list| of(&shuffle, list));
+    let alone = lists.each_ref().map(|items| on_second(&beginning, items));
+    let touched = footprints(&beginning, &lists, &alone, Denied::Cut);
     let passes = |spoil: fn(&mut Ended)| {
         let mut ended = on_model(&beginning, &shuffle);
         spoil(&mut ended);
         check_given(&shuffle, &ended, &alone).is_ok()
-            && check_end(&beginning, &ended, &alone, &footprints).is_ok()
+            && check_end(&beginning, &ended, &alone, &touched).is_ok()
     };
     assert!(passes(|_| ()));
     assert!(!passes(|ended| ended.given[1].done.bits += 1));

@@ -1,11 +1,13 @@
 //! Random pairs of lists that mostly keep out of each other's pages.
 
 use super::{claim, Beginning, Item, List};
+use crate::arguments::Arguments;
 use crate::layout::{bank_pages, type_and_page, PAGE_BYTES, PAGE_WORDS, WORD_BYTES};
+use crate::pages::{readable_words, span};
 use crate::rng::Rng;
 use crate::shrink::shortest;
 use crate::watch::watched;
-use reference::interface::{flat, from_reference};
+use reference::interface::{flat, from_reference, to_reference};
 use reference::model::{self, Controller};
 use std::fmt::Write;
 use std::time::{Duration, Instant};
@@ -21,6 +23,8 @@ pub struct Counts {
     pub held: u64,
     /// It held, and both lists programmed or erased.
     pub both_wrote: u64,
+    /// It held because a denied read stops at its first denied page.
+    pub apart_by_a_cut: u64,
 }
 
 /// Whose page it is; a list mostly keeps to its own and reads what is nobody's.
@@ -107,11 +111,49 @@ impl Trials {
         items
     }
 
+    /// At any place among the items, a denied read of one list and, of the
+    /// other, a program or erase of a page that the read does not reach.
+    fn add_denied_read(&mut self, c: &flat::Controller, items: &mut Vec<Item>) {
+        let mut arguments = Arguments {
+            rng: &mut self.rng,
+            state: &to_reference(c).expect("a beginning encodes a state"),
+        };
+        let Some(read) = arguments.read_over_a_denied_page() else {
+            return;
+        };
+        let write = self.write_behind(c, &read);
+        let [reader, writer] = self
+            .rng
+            .pick(&[[List::Left, List::Right], [List::Right, List::Left]]);
+        for (list, operation) in [(reader, read), (writer, write)] {
+            let place = self.rng.below(items.len() as u32 + 1);
+            let item = Item {
+                list,
+                operation,
+                buffer: self.rng.flash_words(operation.count as usize),
+            };
+            items.insert(place as usize, item);
+        }
+    }
+
+    /// A program or erase of one of a denied read's pages, from the first denied one on.
+    fn write_behind(&mut self, c: &flat::Controller, read: &flat::Operation) -> flat::Operation {
+        let readable = readable_words(c, read).expect("it is denied");
+        let first_denied = (read.address + WORD_BYTES * readable) / PAGE_BYTES;
+        let page = self.rng.between(first_denied, span(read).1);
+        flat::Operation {
+            address: page * PAGE_BYTES + 64 * self.rng.below(16),
+            count: self.rng.between(1, 16),
+            kind: self.rng.pick(&[flat::PROGRAM, flat::PAGE_ERASE]),
+            ..*read
+        }
+    }
+
     fn item(&mut self, data_pages: u32, list: List, owners: &[Owner]) -> Item {
         let kind = [0, 1, 2, 3, 4, 256][self.rng.weighted(&[80, 80, 32, 6, 1, 1])];
         let page = self.page_for(list, kind, owners);
         let operation = self.operation_on(data_pages, kind, page);
-        let room = operation.count.min(64) + self.rng.below(4);
+        let room = operation.count + self.rng.below(4);
         let words = room - u32::from(self.rng.percent(3)).min(room);
         Item {
             list,
@@ -147,11 +189,7 @@ impl Trials {
                 (flat::INFORMATION, info_type, page_in_type)
             }
         };
-        let word = self.rng.below(PAGE_WORDS);
-        let count = match kind {
-            flat::PROGRAM if self.rng.percent(88) => self.rng.between(1, 16 - word % 16),
-            _ => self.rng.between(1, 20),
-        };
+        let (word, count) = self.words_of(kind);
         let spoiled = u32::from(self.rng.percent(3));
         flat::Operation {
             address: (bank * data_pages + page_in_bank) * PAGE_BYTES + WORD_BYTES * word + spoiled,
@@ -161,6 +199,22 @@ impl Trials {
             info_type,
         }
     }
+
+    /// The first word of an operation in its page, and how many it has; a read may run over pages.
+    fn words_of(&mut self, kind: u32) -> (u32, u32) {
+        if kind == flat::READ && self.rng.percent(15) {
+            let in_first_page = self.rng.between(1, 8);
+            let whole_pages = self.rng.weighted(&[6, 2, 1]) as u32;
+            let count = in_first_page + whole_pages * PAGE_WORDS + self.rng.between(1, 8);
+            return (PAGE_WORDS - in_first_page, count);
+        }
+        let word = self.rng.below(PAGE_WORDS);
+        let count = match kind {
+            flat::PROGRAM if self.rng.percent(88) => self.rng.between(1, 16 - word % 16),
+            _ => self.rng.between(1, 20),
+        };
+        (word, count)
+    }
 }
 
 fn trial(seed: u64) -> (Beginning, Vec<Item>) {
@@ -168,7 +222,10 @@ fn trial(seed: u64) -> (Beginning, Vec<Item>) {
         rng: Rng::new(seed),
     };
     let beginning = trials.beginning();
-    let shuffle = trials.shuffle(beginning.controller.data_pages);
+    let mut shuffle = trials.shuffle(beginning.controller.data_pages);
+    if trials.rng.percent(20) {
+        trials.add_denied_read(&beginning.controller, &mut shuffle);
+    }
     (beginning, shuffle)
 }
 
@@ -193,6 +250,7 @@ pub fn trials(seed: u64, number: u64) -> Result<Counts, String> {
         all.trials += part.trials;
         all.held += part.held;
         all.both_wrote += part.both_wrote;
+        all.apart_by_a_cut += part.apart_by_a_cut;
     }
     Ok(all)
 }
@@ -202,9 +260,10 @@ fn count_trial(seed: u64, counts: &mut Counts) -> Result<(), String> {
     counts.trials += 1;
     match claim(&beginning, &shuffle) {
         None => {}
-        Some(Ok(wrote)) => {
+        Some(Ok(apart)) => {
             counts.held += 1;
-            counts.both_wrote += u64::from(wrote);
+            counts.both_wrote += u64::from(apart.both_write);
+            counts.apart_by_a_cut += u64::from(apart.by_a_cut);
         }
         Some(Err(_)) => return Err(shrunk(&beginning, &shuffle)),
     }
