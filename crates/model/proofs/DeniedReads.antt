@@ -1,15 +1,16 @@
--- Denied reads (02, L3): the readable words of a read by the answer of its checks, and cases computed. Assumes nothing.
-use Prim.Native.Nat.{_≤_}
+-- Denied reads (02, L3): which words of a read are readable, by its pages and by the answer of its checks, and cases computed.
+-- Assumes nothing.
+use Prim.Native.Nat.{ℕ, _≤_, _<_}
 use native.Mathlib.Omega.{arith}
 use mathlib.Core.Path.{_≡_, refl, sym, _∙_}
 use mathlib.Core.Bool.{Bool, true, false, _&&_, _||_, not, cond, or-true, or-false, false≢true}
-use borrow.Author.Tests.{eqb-true}
-use Rattle.model.specs.Kinds.{isRead, isProgram, maxCount}
+use borrow.Author.Tests.{eqb-true, ltb-true}
+use Rattle.model.specs.Kinds.{isRead, isProgram, isBankErase, maxCount}
 use Rattle.model.specs.Places.{spanWords, spanAddress, totalWords, placeOf}
-use Rattle.model.specs.Geometry.{imagePage, wordAt}
+use Rattle.model.specs.Geometry.{pageOf, imagePage, wordAt}
 use Rattle.model.specs.Queue.{held, queueOf, pushed, oldest, popped}
 use Rattle.model.specs.State.{flashFits}
-use Rattle.model.specs.Rights.{dataRuling, seedClosed, infoRuling, rulingAt, leading, allowedWords, denied, deciderOf, readableWords}
+use Rattle.model.specs.Rights.{dataRuling, seedClosed, infoRuling, rulingAt, leading, allowedWords, denied, firstDenied, deciderOf, readableWords}
 use Rattle.model.specs.Refusals.{numberOf, accepts, isDenied, isDeniedRead, check, orElse}
 use Rattle.model.specs.Checks.{malformed, outOfRange, crossesWindow, operationAnswer}
 use Rattle.model.specs.Valid.{all, settingsFit, workFits, runningFits, physicalFits, valid, validWith}
@@ -27,10 +28,19 @@ use Rattle.model.specs.declared.Decider.{Decider}
 use Rattle.model.proofs.Bool.{and-left, and-right, by-test}
 use Rattle.model.proofs.Places.{span-fits}
 use Rattle.model.proofs.Checks.{span-words-le}
-use Rattle.model.proofs.Rights.{allowed-le, allowed-all}
+use Rattle.model.proofs.Rights.{before-denied, allowed-le, allowed-all}
 use Rattle.model.proofs.Answers.{asked-in-range, answer-named}
 
 module _ (s : Setup) (o : Operation) (r : isRead o ≡ true) where
+  -- The readable words of a denied read are those before its first denied page; no later one is, even on an allowed page.
+  pub readable-before : denied s o ≡ true → (k : ℕ)
+      → (k < readableWords s o → pageOf (spanAddress o k) .0 < firstDenied s o .0)
+      × (pageOf (spanAddress o k) .0 < firstDenied s o .0 → k < readableWords s o)
+  unfolding denied readableWords
+  readable-before d k =
+      let span : isBankErase o ≡ false = rw (eqb-true (o .kind) 0 r) in
+      before-denied s o k (ltb-true _ _ (rw span at d))
+
   -- A read's span has its n words.
   pub read-span : spanWords o ≡ o .count
   read-span = rw (eqb-true (o .kind) 0 r)

@@ -8,12 +8,12 @@ use mathlib.Core.Bool.{true, false, _&&_, not, and-false, or-true, or-false, fal
 use mathlib.Core.List.{List, [], _∷_}
 use lib.Dec.{eqb}
 use lib.ListN.{take}
-use borrow.Author.Tests.{eqb-true, eq-eqb, ltb-true}
+use borrow.Author.Tests.{eqb-true, eq-eqb}
 use Rattle.model.specs.Geometry.{pageOf, imagePageOf}
-use Rattle.model.specs.Kinds.{isRead, isProgram, isBankErase}
-use Rattle.model.specs.Places.{spanWords, spanAddress, totalWords, placeOf}
+use Rattle.model.specs.Kinds.{isRead, isProgram}
+use Rattle.model.specs.Places.{spanAddress, totalWords, placeOf}
 use Rattle.model.specs.State.{Flash}
-use Rattle.model.specs.Rights.{allowedWords, denied, firstDenied, readableWords}
+use Rattle.model.specs.Rights.{denied, firstDenied, readableWords}
 use Rattle.model.specs.Refusals.{numberOf, noDecider, accepts, isDenied, isDeniedRead}
 use Rattle.model.specs.Checks.{operationAnswer}
 use Rattle.model.specs.Valid.{validWith}
@@ -26,9 +26,8 @@ use Rattle.model.specs.declared.Setup.{Setup}
 use Rattle.model.specs.declared.Controller.{Controller}
 use Rattle.model.specs.declared.Answer.{Answer}
 use Rattle.model.proofs.Bool.{and-left, and-right, by-test}
-use Rattle.model.proofs.Rights.{before-denied}
 use Rattle.model.proofs.Answers.{accepts-not, unrecorded-undenied, denied-if-told}
-use Rattle.model.proofs.DeniedReads.{readable-le}
+use Rattle.model.proofs.DeniedReads.{readable-before, readable-le}
 use Rattle.plans.specs.Plan.{Plan, Refused, Recorded, Reads, Programs, Erases, placesFrom, placesOf, truePlaces, planStarted, planOf, performed}
 use Rattle.plans.proofs.Firsts.{true-first, true-all}
 use Rattle.plans.proofs.Cases.{PlanCase, refuses, records, begins, plan-case}
@@ -127,32 +126,30 @@ module _ (c : Controller) (f : Flash) (o : Operation) (b : List ℕ) where
       denied-plan : planOf c f o b ≡ Reads (operationAnswer (c .setup) o) (readableWords (c .setup) o) (placesOf (c .setup .pages) o)
       denied-plan = plan-by .begun (rw d (or-true (accepts (answerOf (planOf c f o b))))) ∙ rw is-read
 
-      -- Not all of its words are true,
-      stops : allowedWords (c .setup) o < spanWords o
-      unfolding performed denied
-      stops =
+      told-denied : denied (c .setup) o ≡ true
+      unfolding performed
+      told-denied =
           let nine : isDenied (operationAnswer (c .setup) o) ≡ true = rw denied-plan at (and-right (isRead o) _ d) in
-          let told : denied (c .setup) o ≡ true = denied-if-told (c .setup) o nine in
-          let span : isBankErase o ≡ false = rw (eqb-true (o .kind) 0 is-read) in
-          ltb-true _ _ (rw span at told)
+          denied-if-told (c .setup) o nine
 
       true-pages : readsPage (planOf c f o b) q ≡ hasOne (truePlaces (c .setup) o) q
       true-pages = rw (denied-plan, true-first (c .setup) o is-read)
 
-      -- but those before the first denied page are.
+      -- These are the words before its first denied page.
       before-each : (k : ℕ) → pageOf (spanAddress o k) .0 < firstDenied (c .setup) o .0 → imagePageOf (placeOf (c .setup .pages) o k) ≡ q
           → readsPage (planOf c f o b) q ≡ true
-      unfolding truePlaces readableWords
+      unfolding truePlaces
       before-each k l e =
-          rw true-pages (has-each (c .setup .pages) o q 0 (readableWords (c .setup) o) k (before-denied (c .setup) o k stops .1 l) (rw zero-add e))
+          let readable : k < readableWords (c .setup) o = readable-before (c .setup) o is-read told-denied k .1 l in
+          rw true-pages (has-each (c .setup .pages) o q 0 (readableWords (c .setup) o) k readable (rw zero-add e))
 
       before-only : readsPage (planOf c f o b) q ≡ true
           → (k : ℕ) × (k < o .count) × (pageOf (spanAddress o k) .0 < firstDenied (c .setup) o .0)
           × (imagePageOf (placeOf (c .setup .pages) o k) ≡ q)
-      unfolding truePlaces readableWords
+      unfolding truePlaces
       before-only h =
           let (k, l, e) = has-only (c .setup .pages) o q 0 (readableWords (c .setup) o) (sym true-pages ∙ h) in
-          (k, omega (arith, readable-le (c .setup) o is-read), before-denied (c .setup) o k stops .0 l, rw zero-add at e)
+          (k, omega (arith, readable-le (c .setup) o is-read), readable-before (c .setup) o is-read told-denied k .0 l, rw zero-add at e)
 
 -- The pages are the right ones.
 right-pages : (s : State) (j : Job) (q : ImagePage) → RightPages s j q
