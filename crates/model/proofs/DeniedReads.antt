@@ -1,4 +1,4 @@
--- Denied reads (02, L3): which words of a read are readable, by its pages and by the answer of its checks, and cases computed.
+-- Denied reads (02, L3): cases computed, and which words of a read are readable, by its pages and by the answer of its checks.
 -- Assumes nothing.
 use Prim.Native.Nat.{ℕ, _≤_, _<_}
 use native.Mathlib.Omega.{arith}
@@ -31,19 +31,28 @@ use Rattle.model.proofs.Checks.{span-words-le}
 use Rattle.model.proofs.Rights.{before-denied, allowed-le, allowed-all}
 use Rattle.model.proofs.Answers.{asked-in-range, answer-named}
 
+-- ---- settled by one computed statement
+
+pub cut-reads : all holds cutReads ≡ true
+unfolding imagePage wordAt totalWords placeOf held queueOf pushed oldest popped dataRuling seedClosed infoRuling rulingAt leading allowedWords denied deciderOf readableWords malformed outOfRange crossesWindow operationAnswer settingsFit workFits runningFits physicalFits valid flashFits validWith recorded errorAddress setInputs configured setRegion setDefault setInfo setErase reset initialiseAnswer initialise startAnswer start popAnswer pop stalls delivered readWord advance stepProgress step turn turns wholeAnswer drive whole openPages allRights bench seedsLocked nothingGiven heldTwice firstOff secondBankClosed cutReads
+cut-reads = refl
+
+-- ---- which words are readable
+
 module _ (s : Setup) (o : Operation) (r : isRead o ≡ true) where
+  -- A read is no bank erase, and its span has its n words.
+  not-bank : isBankErase o ≡ false
+  not-bank = rw (eqb-true (o .kind) 0 r)
+
+  pub read-span : spanWords o ≡ o .count
+  read-span = rw (eqb-true (o .kind) 0 r)
+
   -- The readable words of a denied read are those before its first denied page; no later one is, even on an allowed page.
   pub readable-before : denied s o ≡ true → (k : ℕ)
       → (k < readableWords s o → pageOf (spanAddress o k) .0 < firstDenied s o .0)
       × (pageOf (spanAddress o k) .0 < firstDenied s o .0 → k < readableWords s o)
   unfolding denied readableWords
-  readable-before d k =
-      let span : isBankErase o ≡ false = rw (eqb-true (o .kind) 0 r) in
-      before-denied s o k (ltb-true _ _ (rw span at d))
-
-  -- A read's span has its n words.
-  pub read-span : spanWords o ≡ o .count
-  read-span = rw (eqb-true (o .kind) 0 r)
+  readable-before d k = before-denied s o k (ltb-true _ _ (rw not-bank at d))
 
   -- No more words of a read are readable than it has.
   pub readable-le : readableWords s o ≤ o .count
@@ -56,7 +65,7 @@ module _ (s : Setup) (o : Operation) (r : isRead o ≡ true) where
   unfolding readableWords
   readable-by-answer h =
       by-test (isDenied (operationAnswer s o)) (λ d. rw (r, d))
-      (λ d. rw (r, d) (sym read-span ∙ sym (allowed-all s o (rw (eqb-true (o .kind) 0 r)) (asked-in-range s o h .2 ∙ d))))
+      (λ d. rw (r, d) (sym read-span ∙ sym (allowed-all s o not-bank (asked-in-range s o h .2 ∙ d))))
 
 either : (x y z : Bool) → (x || (y && z)) ≡ true → (x || z) ≡ true
 either true y z h = refl
@@ -116,17 +125,11 @@ module _ (s : Setup) (o : Operation) {a : Answer} (e : a ≡ operationAnswer s o
 
   -- It is well formed, so that its span is short,
   pub denied-read-span : spanWords o ≤ maxCount
-  denied-read-span = span-words-le o (denied-asked .0) (rw (eqb-true (o .kind) 0 denied-read))
+  denied-read-span = span-words-le o (denied-asked .0) (not-bank s o denied-read)
 
   -- and in range, so that the address of its first denied word fits 32 bits.
   pub denied-read-address : 10 ≤ s .pages → s .pages ≤ 256 → spanAddress o (readableWords s o) .0 ≤ 524288
   denied-read-address g h =
-      let span = span-fits (s .pages) o g h (denied-asked .1) (rw (eqb-true (o .kind) 0 denied-read)) in
+      let span = span-fits (s .pages) o g h (denied-asked .1) (not-bank s o denied-read) in
       let few : readableWords s o ≤ spanWords o = rw (read-span s o denied-read) (readable-le s o denied-read) in
       omega arith
-
--- ---- settled by one computed statement
-
-pub cut-reads : all holds cutReads ≡ true
-unfolding imagePage wordAt totalWords placeOf held queueOf pushed oldest popped dataRuling seedClosed infoRuling rulingAt leading allowedWords denied deciderOf readableWords malformed outOfRange crossesWindow operationAnswer settingsFit workFits runningFits physicalFits valid flashFits validWith recorded errorAddress setInputs configured setRegion setDefault setInfo setErase reset initialiseAnswer initialise startAnswer start popAnswer pop stalls delivered readWord advance stepProgress step turn turns wholeAnswer drive whole openPages allRights bench seedsLocked nothingGiven heldTwice firstOff secondBankClosed cutReads
-cut-reads = refl
