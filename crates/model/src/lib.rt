@@ -42,6 +42,8 @@ pub const WIDE_INFO_PAGES: usize = INFO_PAGES as usize;
 
 pub const WIDE_QUEUE_WORDS: usize = QUEUE_WORDS as usize;
 
+pub const WIDE_MAX_COUNT: usize = MAX_COUNT as usize;
+
 // The information pages of both banks have a setting each.
 pub const INFO_SETTINGS: usize = 2 * WIDE_INFO_PAGES;
 
