@@ -1,0 +1,3 @@
+-- Laws of running a bench sheet.
+
+pub mod Running

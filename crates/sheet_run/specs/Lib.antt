@@ -1,0 +1,3 @@
+-- Running a bench sheet.
+
+pub mod Run

@@ -1,0 +1,6 @@
+-- Laws of bench sheets.
+
+pub mod Forward
+pub mod Counting
+pub mod Places
+pub mod Loading

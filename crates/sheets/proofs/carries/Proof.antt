@@ -1,0 +1,13 @@
+-- `sheets::carries` meets its contract. Assumes nothing.
+use Rattle.sheets.specs.Sheet.{carried}
+use Rattle.sheets.proofs.carries.Statement.{statement}
+use Rattle.sheets.proofs.carries.Tie as tie
+
+pub carries-spec : {M : Type 1} → statement M
+unfolding carried
+carries-spec =
+    tie.close
+    (tie.spec
+    (λ c κs. tt)
+    (λ c κs. tt)
+    (λ c. rw (← c .before .is-program .ensures) (c .choose .ensures)))

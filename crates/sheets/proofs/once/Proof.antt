@@ -1,0 +1,14 @@
+-- Assumes nothing.
+use mathlib.Core.Path.{_≡_, refl, ap, sym, _∙_}
+use borrow.Author.Needs.{needs}
+use Rattle.sheets.proofs.once.Statement.{statement}
+use Rattle.sheets.proofs.once.Tie as tie
+
+pub once-spec : {M : Type 1} → statement M
+once-spec =
+    tie.close
+    (tie.spec
+    (λ c. search needs)
+    (λ c. search needs)
+    (λ c. rw (c .before .r .given .1) refl)
+    (λ c. rw (c .before .r2 .given .1) refl))

@@ -1,0 +1,31 @@
+-- `sheets::stated_at` meets its contract. Assumes nothing.
+use mathlib.Core.Path.{refl}
+use Prim.Native.Nat.{_≤_}
+use native.Mathlib.Omega.{arith}
+use Rattle.numbers.proofs.Laws.{number-to-small, then-small}
+use Rattle.sheets.specs.Sheet.{statedAt, operationAt, kindAt, partitionAt, typeAt, addressAt, countAt}
+use Rattle.sheets.proofs.stated_at.Statement.{statement}
+use Rattle.sheets.proofs.stated_at.Tie as tie
+
+pub stated-at-spec : {M : Type 1} → statement M
+unfolding statedAt operationAt kindAt partitionAt typeAt addressAt countAt
+stated-at-spec =
+    tie.close
+    (tie.spec
+    (λ c κs. tt)
+    (λ c κs. tt)
+    (λ c κs. tt)
+    (λ c κs. tt)
+    (λ c κs. tt)
+    (λ c κs. tt)
+    (λ c κs. tt)
+    (λ c κs. tt)
+    (λ c κs. tt)
+    (λ c κs. tt)
+    (λ c κs. tt)
+    (λ c. let h : c .before .before .before .before .before .value-of .result ≤ 255 = rw (c .before .before .before .before .before .value-of .ensures, c .before .before .before .before .before .before .before .before .before .before .number-to .ensures) (number-to-small _ 255 _) in omega arith)
+    (λ c. let h : c .before .before .before .before .value-of2 .result ≤ 255 = rw (c .before .before .before .before .value-of2 .ensures, c .before .before .before .before .before .before .before .before .before .then-number .ensures) (then-small _ 255 _) in omega arith)
+    (λ c. let h : c .before .before .before .value-of3 .result ≤ 255 = rw (c .before .before .before .value-of3 .ensures, c .before .before .before .before .before .before .before .before .then-number2 .ensures) (then-small _ 255 _) in omega arith)
+    (λ c κs. tt)
+    (λ c κs. tt)
+    (λ c. rw (c .then-numbers .ensures, c .before .carries .ensures, c .before .before .next-of .ensures, c .before .before .before .value-of5 .ensures, c .before .before .before .before .value-of4 .ensures, c .before .before .before .before .before .value-of3 .ensures, c .before .before .before .before .before .before .value-of2 .ensures, c .before .before .before .before .before .before .before .value-of .ensures, c .before .before .before .before .before .before .before .before .then-number4 .ensures, c .before .before .before .before .before .before .before .before .before .then-number3 .ensures, c .before .before .before .before .before .before .before .before .before .before .then-number2 .ensures, c .before .before .before .before .before .before .before .before .before .before .before .then-number .ensures, c .before .before .before .before .before .before .before .before .before .before .before .before .number-to .ensures) refl))

@@ -1,0 +1,18 @@
+-- Assumes nothing.
+use mathlib.Core.Path.{_≡_, refl, ap, sym, _∙_}
+use borrow.Author.Needs.{needs}
+use Rattle.sheets.proofs.Counting.{product}
+use Rattle.sheets.proofs.times.Statement.{statement}
+use Rattle.sheets.proofs.times.Tie as tie
+
+pub times-spec : {M : Type 1} → statement M
+times-spec =
+    tie.close
+    (tie.spec
+    (λ c. search needs)
+    (λ c. search needs)
+    (λ c. record { fits = product _ _ (search needs) (search needs) })
+    (λ c κs. tt)
+    (λ c. search needs)
+    (λ c. rw (c .before .before .block .given .1, c .cap .ensures) refl)
+    (λ c. rw (c .before .block2 .given .1) refl))

@@ -1,0 +1,4 @@
+-- Bench sheets.
+
+pub mod Sheet
+pub mod Counts

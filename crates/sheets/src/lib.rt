@@ -1,0 +1,256 @@
+// Bench sheets: the readers of blocks and entries, and what each entry asks for. specs/Sheet.antt says what a sheet means.
+ghost use mathlib.Core.Path.{_≡_};
+ghost use mathlib.Core.Bool.{cond};
+ghost use Prim.Native.Nat.{_≤_, _<_};
+ghost use lib.ListN.{length, getD};
+ghost use Rattle.sheets.specs.Sheet.{carried, statedAt, blockAt, entryAt, placesOf, requestAt, loaded};
+ghost use Rattle.sheets.specs.Counts.{capped, counted, onceCounted, addedTo, timesOf};
+use model::ByteAddress;
+use model::Operation;
+use model::WIDE_MAX_COUNT;
+use numbers::LARGEST;
+use numbers::Parsed;
+
+// A sheet's bytes, the entries 1 and 3 that it runs, and the repeats around an entry: at most these.
+pub const MAX_BYTES: usize = 4096;
+
+pub const MAX_ENTRIES: u32 = 4096;
+
+const MAX_DEPTH: u8 = 8;
+
+// What a block counts that runs more entries than that.
+const TOO_MANY: u32 = 4097;
+
+// A program of more words carries none.
+const MAX_CARRIED: u32 = 16;
+
+const MAX_BYTE: u32 = 255;
+
+const MAX_RIGHTS: u32 = 7;
+
+const MAX_TIMES: u32 = 255;
+
+// ---- the tags of entries; 0 ends a block
+
+const OPERATION: u32 = 1;
+
+const REPEAT: u32 = 2;
+
+const RIGHTS: u32 = 3;
+
+// Entry 1 as the sheet states it: `words` is the place of the first word that it carries, `end` its last number. The operation and
+// that place are of use only where `end` is not bad.
+pub struct Stated {
+    pub op: Operation,
+    pub words: usize,
+    pub end: Parsed,
+}
+
+// What an entry asks for: a whole operation, or default rights.
+pub enum Request {
+    Whole { op: Operation, words: usize },
+    Rights(u8),
+}
+
+// Good with the number of entries that run, or refused with the place where it is bad.
+pub enum Verdict {
+    Good(u32),
+    Refused(usize),
+}
+
+// ---- entry 1
+
+fn choose(test: bool, a: u32, b: u32) -> u32
+    ensures { λ r. ⌜ r ≡ cond test a b ⌝ }
+{
+    if test { a } else { b }
+}
+
+// How many words stand after n.
+fn carries(o: Operation) -> u32
+    ensures { λ r. ⌜ r ≡ carried o ⌝ }
+{
+    let few = o.count <= MAX_CARRIED;
+    choose(places::is_program(o) & few, o.count, 0)
+}
+
+// The entry whose tag stands before `at`.
+fn stated_at(s: &[u8], at: usize) -> Stated
+    ensures { λ r. ⌜ r ≡ statedAt (now (s .entry)) at ⌝ }
+{
+    let kind = numbers::number_to(s, at, MAX_BYTE);
+    let partition = numbers::then_number(s, kind, MAX_BYTE);
+    let info = numbers::then_number(s, partition, MAX_BYTE);
+    let address = numbers::then_number(s, info, LARGEST);
+    let count = numbers::then_number(s, address, LARGEST);
+    let k = numbers::value_of(kind);
+    let p = numbers::value_of(partition);
+    let i = numbers::value_of(info);
+    let a = numbers::value_of(address);
+    let n = numbers::value_of(count);
+    let words = numbers::next_of(count);
+    let op = Operation {
+        kind: k as u8,
+        partition: p as u8,
+        info: i as u8,
+        address: ByteAddress(a),
+        count: n,
+    };
+    let end = numbers::then_numbers(s, count, carries(op));
+    Stated { op, words, end }
+}
+
+// ---- counts
+
+fn cap(n: u64) -> u32
+    ensures { λ r. ⌜ r ≡ capped n ⌝ }
+{
+    if n <= 4096 { n as u32 } else { TOO_MANY }
+}
+
+fn once(r: Parsed) -> Parsed
+    ensures { λ q. ⌜ q ≡ onceCounted r ⌝ }
+{
+    match r {
+        Parsed::Number { value: _, next } => Parsed::Number { value: 1, next },
+        Parsed::Bad(p) => Parsed::Bad(p),
+    }
+}
+
+fn added(a: u32, rest: Parsed) -> Parsed
+    ensures { λ q. ⌜ q ≡ addedTo a rest ⌝ }
+{
+    match rest {
+        Parsed::Number { value, next } => Parsed::Number {
+            value: cap(a as u64 + value as u64),
+            next,
+        },
+        Parsed::Bad(p) => Parsed::Bad(p),
+    }
+}
+
+fn times(k: u32, block: Parsed) -> Parsed
+    ensures { λ q. ⌜ q ≡ timesOf k block ⌝ }
+{
+    match block {
+        Parsed::Number { value, next } => Parsed::Number {
+            value: cap(k as u64 * value as u64),
+            next,
+        },
+        Parsed::Bad(p) => Parsed::Bad(p),
+    }
+}
+
+// ---- the readers
+
+// The block that begins at `at`, inside `depth` repeats.
+pub fn block(s: &[u8], at: usize, depth: u8) -> Parsed
+    ensures { λ r. ⌜ r ≡ counted (blockAt (now (s .entry)) at depth) ⌝ }
+{
+    let tag = numbers::number(s, at);
+    let Parsed::Number { value, next } = tag else {
+        return tag;
+    };
+    if value == 0 {
+        return tag;
+    }
+    let first = entry(s, at, next, value, depth);
+    let Parsed::Number {
+        value: runs,
+        next: rest,
+    } = first
+    else {
+        return first;
+    };
+    added(runs, block(s, rest, depth))
+}
+
+// The entry whose tag stands at `at`, the rest from `next` on.
+fn entry(s: &[u8], at: usize, next: usize, tag: u32, depth: u8) -> Parsed
+    ensures { λ r. ⌜ r ≡ counted (entryAt (now (s .entry)) at next tag depth) ⌝ }
+{
+    if tag == OPERATION {
+        let stated = stated_at(s, next);
+        let end = stated.end;
+        return once(end);
+    }
+    if tag == RIGHTS {
+        return once(numbers::number_to(s, next, MAX_RIGHTS));
+    }
+    if tag == REPEAT {
+        if depth < MAX_DEPTH {
+            let count = numbers::number_to(s, next, MAX_TIMES);
+            let Parsed::Number { value, next: inner } = count else {
+                return count;
+            };
+            if value == 0 {
+                return Parsed::Bad(next);
+            }
+            return times(value, block(s, inner, depth + 1));
+        }
+    }
+    Parsed::Bad(at)
+}
+
+// The place of the tag of entry `i` of those that the block at `at` runs: entries before it are passed by their counts.
+pub fn nth(s: &[u8], at: usize, depth: u8, i: u32) -> usize
+    requires { ⌜ (i < length (placesOf (blockAt (now s) at depth))) × (length (placesOf (blockAt (now s) at depth)) ≤ 4096) ⌝ }
+    ensures { λ r. ⌜ r ≡ getD (placesOf (blockAt (now (s .entry)) at depth)) i 0 ⌝ }
+{
+    let tag = numbers::number(s, at);
+    let Parsed::Number { value, next } = tag else {
+        return 0;
+    };
+    let first = entry(s, at, next, value, depth);
+    let Parsed::Number {
+        value: runs,
+        next: rest,
+    } = first
+    else {
+        return 0;
+    };
+    if runs <= i {
+        return nth(s, rest, depth, i - runs);
+    }
+    if value != REPEAT {
+        return at;
+    }
+    let count = numbers::number_to(s, next, MAX_TIMES);
+    let times = numbers::value_of(count);
+    let each = runs / times;
+    nth(s, numbers::next_of(count), depth + 1, i % each)
+}
+
+// ---- what the entry at a place asks for
+
+pub fn request_at(s: &[u8], at: usize) -> Request
+    ensures { λ r. ⌜ r ≡ requestAt (now (s .entry)) at ⌝ }
+{
+    let tag = numbers::number(s, at);
+    let next = numbers::next_of(tag);
+    let sort = numbers::value_of(tag);
+    if sort == RIGHTS {
+        let rights = numbers::value_of(numbers::number_to(s, next, MAX_RIGHTS));
+        return Request::Rights(rights as u8);
+    }
+    let stated = stated_at(s, next);
+    let op = stated.op;
+    let words = stated.words;
+    Request::Whole { op, words }
+}
+
+// The buffer for an operation whose carried words, if any, stand from `at` on.
+pub fn loaded(s: &[u8], o: Operation, at: usize) -> [u32; WIDE_MAX_COUNT]
+    ensures { λ r. ⌜ r ≡ loaded (now (s .entry)) o at ⌝ }
+{
+    let mut words = [0u32; WIDE_MAX_COUNT];
+    let mut last = Parsed::Number { value: 0, next: at };
+    let n = carries(o) as usize;
+    let mut i = 0;
+    while i < n {
+        last = numbers::then_number(s, last, LARGEST);
+        words[i] = numbers::value_of(last);
+        i += 1;
+    }
+    words
+}
