@@ -5,7 +5,7 @@ use mathlib.Core.List.{List, [], _∷_, _++_, append-nil, append-assoc}
 use Prim.Native.Nat.{ℕ, suc, _+_, _*_, _≤_, _<_}
 use native.Mathlib.Omega.{arith}
 use native.Mathlib.Numerals.{add-one}
-use lib.ListN.{length, getD, take, replicate, length-append}
+use lib.ListN.{length, getD, take, replicate, length-append, length-replicate}
 use lib.Seq.{sets, take-suc, take-all}
 use Rattle.model.specs.State.{Flash, flash}
 use Rattle.registers.specs.Layout.{registerCount}
@@ -17,6 +17,7 @@ use Rattle.sheets.specs.declared.Verdict.the-variants.{Good, Refused}
 use Rattle.sheets.specs.Sheet.{blockAt, placesOf, verdictOf, expanded, requestAt}
 use Rattle.sheets.proofs.Counting.{good-runs, bad-runs, expanded-few}
 use Rattle.sheets.proofs.Loading.{sets-append}
+use Rattle.expansions.proofs.Goods.{stored-at}
 use Rattle.sheet_run.specs.declared.Line.{Line}
 use Rattle.sheet_run.specs.Run.{Bench, requested, performed, performedAll, SheetLeaves, leftBy, run, benchFlash, benchRegisters, rowOf, benchRun, printedOf}
 
@@ -94,18 +95,16 @@ module _ (sheet : List ℕ) (k : ℕ) (good : Good k ≡ verdictOf sheet) where
   pub runs-few : k ≤ 4096
   runs-few = good-runs sheet k good .2
 
-  -- Entry i is one of the block's, and of those that run.
-  pub runs-here : (i : ℕ) → i < k → (i < length (placesOf (blockAt sheet 0 0))) × (length (placesOf (blockAt sheet 0 0)) ≤ 4096)
-  runs-here i h =
-      let g = good-runs sheet k good in
-      let e : length (placesOf (blockAt sheet 0 0)) ≡ k = sym (g .1 ∙ ap length (g .0)) in
-      (rw e h, rw e (g .2))
-
   pub runs-there : (i : ℕ) → i < k → i < length (expanded sheet)
   runs-there i h = rw (← good-runs sheet k good .1) h
 
-  pub runs-at : (i : ℕ) → getD (placesOf (blockAt sheet 0 0)) i 0 ≡ getD (expanded sheet) i 0
-  runs-at i = rw (good-runs sheet k good .0) refl
+  -- The expansion has the place of entry i there.
+  pub runs-at : {places : List ℕ} → places ≡ sets (replicate 4096 0) 0 (placesOf (blockAt sheet 0 0)) → (i : ℕ) → i < k
+      → getD places i 0 ≡ getD (expanded sheet) i 0
+  runs-at e i h =
+      let g = good-runs sheet k good in
+      let room : length (expanded sheet) ≤ length (replicate {A = ℕ} 4096 0) = rw length-replicate (omega (arith, g .1, g .2)) in
+      rw (e, ← g .0) (stored-at (expanded sheet) (replicate 4096 0) i (runs-there i h) room)
 
   -- All of them have run.
   pub run-good : {s₀ : List ℕ} {f₀ : Flash} {row₀ : List ℕ} {i : ℕ} {s : List ℕ} {f : Flash} {row : List ℕ} {n : ℕ}

@@ -7,6 +7,7 @@ ghost use lib.Seq.{sets};
 ghost use Rattle.model.specs.State.{flash};
 ghost use Rattle.sheets.specs.Sheet.{verdictOf};
 ghost use Rattle.sheet_run.specs.Run.{performed, run, benchRun, printedOf};
+use expansions::Places;
 use model::ERASED;
 use numbers::Parsed;
 use registers::Registers;
@@ -14,9 +15,10 @@ use sheets::MAX_BYTES;
 use sheets::MAX_ENTRIES;
 use sheets::Request;
 use sheets::Verdict;
+use sheets::WIDE_MAX_ENTRIES;
 
 // A row has two numbers for each entry that may run.
-pub const ROW_NUMBERS: usize = 8192;
+pub const ROW_NUMBERS: usize = 2 * WIDE_MAX_ENTRIES;
 
 pub type Row = [u32; ROW_NUMBERS];
 
@@ -114,11 +116,12 @@ pub fn run(s: &mut Registers, image: &mut [u32], sheet: &[u8], row: &mut Row) ->
             numbers: 0,
         };
     };
+    let mut places: Places = [0usize; WIDE_MAX_ENTRIES];
+    expansions::expand(sheet, &mut places);
     let mut n = 0;
     let mut i: u32 = 0;
     while i < count {
-        let at = sheets::nth(sheet, 0, 0, i);
-        let line = perform(s, image, sheet, at);
+        let line = perform(s, image, sheet, places[i as usize]);
         n = write(row, n, line);
         i += 1;
     }

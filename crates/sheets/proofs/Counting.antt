@@ -19,7 +19,7 @@ use Rattle.sheets.specs.Sheet.Meaning.{Runs, Fault}
 use Rattle.sheets.specs.Counts.{capped, counted, onceCounted, addedTo, timesOf}
 use Rattle.sheets.specs.declared.Verdict.{Verdict}
 use Rattle.sheets.specs.declared.Verdict.the-variants.{Good, Refused}
-use Rattle.sheets.proofs.Forward.{Fwd, block-fwd, entry-fwd, block-is}
+use Rattle.sheets.proofs.Forward.{Fwd, entry-forward, block-is}
 
 -- a product of two numbers below 2^32 is below 2^64
 pub product : (a b : ℕ) → a < 4294967296 → b < 4294967296 → a * b < 18446744073709551616
@@ -134,8 +134,7 @@ module _ (s : List ℕ) (at next tag d : ℕ) where
   entry-none a b c = rw (ne-eqb _ _ a, ne-eqb _ _ b, ne-eqb _ _ c) refl
 
   pub entry-past : (a x : ℕ) → Number a x ≡ counted (entryAt s at next tag d) → next ≤ x
-  unfolding entryAt blockAt
-  entry-past a x e = past (entryAt s at next tag d) a x e (entry-fwd s (λ n. blockAt s n (d + 1)) at next tag d (λ n. block-fwd (suc (length s)) s n (d + 1)))
+  entry-past a x e = past (entryAt s at next tag d) a x e (entry-forward s at next tag d)
     where
       past : (m : Meaning) (a x : ℕ) → Number a x ≡ counted m → Fwd next m → next ≤ x
       past (Runs ps n) a x e f = let v : x ≡ n = cc in omega arith

@@ -75,6 +75,11 @@ block-fwd (suc k) s at d =
     (entry-fwd s (λ m. blockWith k s m (d + 1)) at n v d (λ m. block-fwd k s m (d + 1))) (λ m. block-fwd k s m d)))
     (which (eqb v 0)))
 
+pub entry-forward : (s : List ℕ) (at next tag d : ℕ) → Fwd next (entryAt s at next tag d)
+unfolding entryAt blockAt
+entry-forward s at next tag d =
+    entry-fwd s (λ n. blockAt s n (d + 1)) at next tag d (λ n. block-fwd (suc (length s)) s n (d + 1))
+
 -- what comes next is asked only at a place that was reached
 after-ext : (s : List ℕ) (at : ℕ) (r : Parsed) (f g : ℕ → ℕ → Meaning) → Goes s at r → ((v n : ℕ) → at < n → f v n ≡ g v n) → after r f ≡ after r g
 after-ext s at (Number v n) f g w h = h v n (w .0)

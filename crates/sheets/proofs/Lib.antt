@@ -2,5 +2,4 @@
 
 pub mod Forward
 pub mod Counting
-pub mod Places
 pub mod Loading

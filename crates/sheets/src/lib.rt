@@ -1,9 +1,7 @@
 // Bench sheets: the readers of blocks and entries, and what each entry asks for. specs/Sheet.antt says what a sheet means.
 ghost use mathlib.Core.Path.{_≡_};
 ghost use mathlib.Core.Bool.{cond};
-ghost use Prim.Native.Nat.{_≤_, _<_};
-ghost use lib.ListN.{length, getD};
-ghost use Rattle.sheets.specs.Sheet.{carried, statedAt, blockAt, entryAt, placesOf, requestAt, loaded};
+ghost use Rattle.sheets.specs.Sheet.{carried, statedAt, blockAt, entryAt, requestAt, loaded};
 ghost use Rattle.sheets.specs.Counts.{capped, counted, onceCounted, addedTo, timesOf};
 use model::ByteAddress;
 use model::Operation;
@@ -16,6 +14,8 @@ pub const MAX_BYTES: usize = 4096;
 
 pub const MAX_ENTRIES: u32 = 4096;
 
+pub const WIDE_MAX_ENTRIES: usize = MAX_ENTRIES as usize;
+
 const MAX_DEPTH: u8 = 8;
 
 // What a block counts that runs more entries than that.
@@ -26,15 +26,15 @@ const MAX_CARRIED: u32 = 16;
 
 const MAX_BYTE: u32 = 255;
 
-const MAX_RIGHTS: u32 = 7;
+pub const MAX_RIGHTS: u32 = 7;
 
-const MAX_TIMES: u32 = 255;
+pub const MAX_TIMES: u32 = 255;
 
 // ---- the tags of entries; 0 ends a block
 
-const OPERATION: u32 = 1;
+pub const OPERATION: u32 = 1;
 
-const REPEAT: u32 = 2;
+pub const REPEAT: u32 = 2;
 
 const RIGHTS: u32 = 3;
 
@@ -75,7 +75,7 @@ fn carries(o: Operation) -> u32
 }
 
 // The entry whose tag stands before `at`.
-fn stated_at(s: &[u8], at: usize) -> Stated
+pub fn stated_at(s: &[u8], at: usize) -> Stated
     ensures { λ r. ⌜ r ≡ statedAt (now (s .entry)) at ⌝ }
 {
     let kind = numbers::number_to(s, at, MAX_BYTE);
@@ -190,35 +190,6 @@ fn entry(s: &[u8], at: usize, next: usize, tag: u32, depth: u8) -> Parsed
         }
     }
     Parsed::Bad(at)
-}
-
-// The place of the tag of entry `i` of those that the block at `at` runs: entries before it are passed by their counts.
-pub fn nth(s: &[u8], at: usize, depth: u8, i: u32) -> usize
-    requires { ⌜ (i < length (placesOf (blockAt (now s) at depth))) × (length (placesOf (blockAt (now s) at depth)) ≤ 4096) ⌝ }
-    ensures { λ r. ⌜ r ≡ getD (placesOf (blockAt (now (s .entry)) at depth)) i 0 ⌝ }
-{
-    let tag = numbers::number(s, at);
-    let Parsed::Number { value, next } = tag else {
-        return 0;
-    };
-    let first = entry(s, at, next, value, depth);
-    let Parsed::Number {
-        value: runs,
-        next: rest,
-    } = first
-    else {
-        return 0;
-    };
-    if runs <= i {
-        return nth(s, rest, depth, i - runs);
-    }
-    if value != REPEAT {
-        return at;
-    }
-    let count = numbers::number_to(s, next, MAX_TIMES);
-    let times = numbers::value_of(count);
-    let each = runs / times;
-    nth(s, numbers::next_of(count), depth + 1, i % each)
 }
 
 // ---- what the entry at a place asks for

@@ -1,0 +1,3 @@
+-- The expansion of a bench sheet.
+
+pub mod Laying
