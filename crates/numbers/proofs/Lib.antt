@@ -1,3 +1,4 @@
--- Laws of numbers in bytes.
+-- Numbers in bytes: worked cases, and laws.
 
+pub mod Cases
 pub mod Laws

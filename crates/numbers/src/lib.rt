@@ -33,7 +33,7 @@ fn last_group(s: &[u8], at: usize) -> usize
     i
 }
 
-// The value of `k` groups, five at most: more do not fit 64 bits.
+// The value of `k` groups. A shortest form of more than five is too large in any case.
 fn groups_value(s: &[u8], at: usize, k: usize) -> u64
     requires { ⌜ (at + k ≤ length (now s)) × (k ≤ 5) ⌝ }
     ensures { λ r. ⌜ (r ≡ groupsValue (now (s .entry)) at k) × (r < 34359738368) ⌝ }

@@ -1,3 +1,4 @@
--- Laws of running a bench sheet.
+-- Running a bench sheet: worked cases, and laws.
 
+pub mod Cases
 pub mod Running

@@ -26,7 +26,7 @@ pub record Bench : Type 0 where
 abbrev pub withRights : Bench → ℕ → Bench
 withRights b r = record { registers = setDefaultIn (b .registers) r .registers; flash = b .flash; printed = b .printed }
 
--- Entry 1 is a whole operation; it prints «each operation's answer (0 if none refused)» and the bit count.
+-- Entry 1 is a whole operation; it prints its answer's number, 0 if nothing refused it, and its bit count.
 abbrev pub afterWhole : Bench → LeftBuffer ToldBits → Bench
 afterWhole b l = record {
   registers = l .registers;
@@ -61,12 +61,12 @@ leftBy v row b = record {
   row = sets row 0 (b .printed);
 }
 
--- A good sheet runs its entries after expansion; «A bad sheet is refused whole before any operation».
+-- A good sheet runs its entries after expansion; a bad one is refused whole, before any operation.
 unfoldable pub run : List ℕ → Flash → List ℕ → List ℕ → SheetLeaves
 run s f sheet row =
     leftBy (verdictOf sheet) row (performedAll sheet (expanded sheet) (record { registers = s; flash = f; printed = [] }))
 
--- The program «starts from ready, D = 16, all-ones flash, both inputs off»: reset, then initialise.
+-- The program starts from ready, D = 16, all-ones flash, both inputs off: reset, then initialise.
 abbrev pub benchFlash : Flash
 benchFlash = flash (replicate 14848 allOnes)
 

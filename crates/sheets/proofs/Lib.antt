@@ -1,5 +1,6 @@
--- Laws of bench sheets.
+-- Bench sheets: worked cases, and laws.
 
+pub mod Cases
 pub mod Forward
 pub mod Counting
 pub mod Loading

@@ -6,18 +6,21 @@ use Prim.Native.Nat.{ℕ, zero, suc, _+_, _≤_, _<_}
 use native.Mathlib.Omega.{arith}
 use native.Mathlib.Numerals.{add-one}
 use native.Mathlib.Nat.{add-zero}
-use lib.ListN.{length, set, replicate}
-use lib.Seq.{sets}
+use lib.ListN.{length, set, replicate, length-replicate}
+use lib.Seq.{sets, length-sets}
 use lib.Dec.{leb}
-use borrow.Author.Tests.{leb-true}
-use Rattle.model.specs.Kinds.{isProgram, maxCount}
+use borrow.Author.Tests.{leb-true, ltb-true, le-ltb}
+use Rattle.model.specs.Kinds.{isProgram, usesCount, maxCount}
+use Rattle.model.specs.Checks.{malformed}
+use Rattle.model.specs.Whole.{shortBuffer}
 use Rattle.model.specs.declared.Operation.{Operation}
 use Rattle.model.proofs.Bool.{by-test, and-right}
+use Rattle.model.proofs.Checks.{count-bound}
 use Rattle.numbers.specs.declared.Parsed.{Parsed}
 use Rattle.numbers.specs.declared.Parsed.the-variants.{Number}
 use Rattle.numbers.specs.Number.{largest, thenNumber, thenNumbers, valueOf}
 use Rattle.numbers.proofs.Laws.{numbers-none, numbers-more}
-use Rattle.sheets.specs.Sheet.{carried, wordsFrom}
+use Rattle.sheets.specs.Sheet.{carried, wordsFrom, loaded}
 
 -- Words stored after others are stored with them.
 pub sets-append : (row : List ℕ) (i : ℕ) (ws vs : List ℕ) → sets (sets row i ws) (i + length ws) vs ≡ sets row i (ws ++ vs)
@@ -64,3 +67,19 @@ pub carried-few : (o : Operation) → carried o ≤ 16
 unfolding carried
 carried-few o =
     by-test (isProgram o && leb (o .count) 16) (λ e. rw e (leb-true _ _ (and-right (isProgram o) _ e))) (λ e. rw e (omega arith))
+
+-- ---- the buffer
+
+loaded-length : (s : List ℕ) (o : Operation) (at : ℕ) → length (loaded s o at) ≡ maxCount
+unfolding loaded
+loaded-length s o at = length-sets (replicate maxCount 0) 0 (wordsFrom s (carried o) (Number 0 at)) ∙ length-replicate {A = ℕ} maxCount 0
+
+-- It is long enough for every operation: 6 never answers.
+pub never-short : (s : List ℕ) (o : Operation) (at : ℕ) → shortBuffer o (loaded s o at) ≡ false
+never-short s o at =
+    rw loaded-length (
+    by-test (malformed o) (λ e. rw e refl)
+    (λ e.
+    by-test (usesCount o)
+    (λ u. rw (e, u, le-ltb maxCount (o .count) (count-bound o e (ltb-true (o .kind) 2 u) .1)) refl)
+    (λ u. rw (e, u) refl)))

@@ -18,7 +18,7 @@ use Rattle.sheets.specs.declared.Verdict.the-variants.{Good, Refused}
 
 -- ---- entry 1
 
--- «Entry 1: kind, partition, type (each at most 255), address, n»: the numbers after its tag.
+-- Kind, partition and type, each at most 255, address and n follow its tag.
 unfoldable pub kindAt : List ℕ → ℕ → Parsed
 kindAt s at = numberTo s 255 at
 
@@ -43,11 +43,11 @@ operationAt s at = record {
   count = valueOf (countAt s at);
 }
 
--- «then for kind 1 and n up to 16 that many words (a larger n carries none)».
+-- Then, for kind 1 and n up to 16, that many words; a larger n carries none.
 unfoldable pub carried : Operation → ℕ
 carried o = cond (isProgram o && leb (o .count) 16) (o .count) 0
 
--- The operation, the place of the first word that it carries, and the last number of the entry.
+-- The whole entry: the operation, the place of the first word that it carries, and its last number.
 unfoldable pub statedAt : List ℕ → ℕ → Stated
 statedAt s at = record {
   op = operationAt s at;
@@ -91,12 +91,12 @@ abbrev pub followed : Meaning → (ℕ → Meaning) → Meaning
 followed (Runs ps n) f = before ps (f n)
 followed (Fault p) f = Fault p
 
--- «Entry 2: a repeat count 1 to 255, then a block»: a count of 0 can't stand there.
+-- Entry 2 is a repeat count from 1 to 255, then a block: a 0 can't stand there.
 abbrev pub repeatAt : List ℕ → (ℕ → Meaning) → ℕ → Meaning
 repeatAt s block at = after (numberTo s 255 at) (λ k n. cond (eqb k 0) (Fault at) (repeated k (block n)))
 
 -- An entry whose tag stands at `at`, the rest from `next` on; `depth` repeats are around it, and `block` says what a block in it
--- means. «Entry 3: default rights, 0 to 7». «at most 8 repeats deep»: the tag of a ninth can't stand there, nor any other tag.
+-- means. Entry 3 is default rights, 0 to 7. Repeats are at most 8 deep: the tag of a ninth can't stand there, nor a tag from 4 on.
 unfoldable pub entryWith : List ℕ → (ℕ → Meaning) → ℕ → ℕ → ℕ → ℕ → Meaning
 entryWith s block at next tag depth =
     cond (eqb tag 1) (once at (statedAt s next .end))
@@ -104,8 +104,8 @@ entryWith s block at next tag depth =
     (cond (eqb tag 2 && ltb depth 8) (repeatAt s block next)
     (Fault at)))
 
--- «A block is entries up to a 0 byte», «A block contains entries and a repeat entry contains a block». `fuel` bounds how often
--- blocks are entered or go on; the law `fuel-enough` says that the sheet's length is enough.
+-- A block is entries up to a 0. `fuel` bounds how often a block is entered or goes on: each time the place moves on, so that the
+-- sheet's length is enough, and the bound never shows (law `block-is`).
 unfoldable pub blockWith : ℕ → List ℕ → ℕ → ℕ → Meaning
 blockWith zero s at depth = Fault (length s)
 blockWith (suc fuel) s at depth =
@@ -125,13 +125,13 @@ placesOf (Fault p) = []
 
 -- ---- the sheet
 
--- «the sheet is one block with nothing after it»; «Entries 1 and 3 after expansion: at most 4,096». What follows the block is bad
--- at its first byte; «0 if only the expansion is too large».
+-- The sheet is one block with nothing after it: what follows is bad at its first byte. Entries 1 and 3 after expansion are at most
+-- 4,096: if only they are too many, the place is 0.
 abbrev pub judged : List ℕ → Meaning → Verdict
 judged s (Runs ps n) = cond (ltb n (length s)) (Refused n) (cond (leb (length ps) 4096) (Good (length ps)) (Refused 0))
 judged s (Fault p) = Refused p
 
--- «A sheet is at most 4,096 bytes»: bad at «4,096 if it is too long», whatever it holds.
+-- A sheet is at most 4,096 bytes: a longer one is bad at 4,096, whatever it holds.
 unfoldable pub verdictOf : List ℕ → Verdict
 verdictOf s = cond (leb (length s) 4096) (judged s (blockAt s 0 0)) (Refused 4096)
 
@@ -159,6 +159,6 @@ unfoldable pub wordsFrom : List ℕ → ℕ → Parsed → List ℕ
 wordsFrom s zero r = []
 wordsFrom s (suc k) r = valueOf (thenNumber s largest r) ∷ wordsFrom s k (thenNumber s largest r)
 
--- «A buffer for whole reads is always long enough»: it has room for the largest n, the words that the entry carries and then zeros.
+-- The buffer of an operation: the words that its entry carries and then zeros, long enough for the largest n.
 unfoldable pub loaded : List ℕ → Operation → ℕ → List ℕ
 loaded s o at = sets (replicate maxCount 0) 0 (wordsFrom s (carried o) (Number 0 at))

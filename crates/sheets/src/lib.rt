@@ -1,6 +1,5 @@
 // Bench sheets: the readers of blocks and entries, and what each entry asks for. specs/Sheet.antt says what a sheet means.
 ghost use mathlib.Core.Path.{_≡_};
-ghost use mathlib.Core.Bool.{cond};
 ghost use Rattle.sheets.specs.Sheet.{carried, statedAt, blockAt, entryAt, requestAt, loaded};
 ghost use Rattle.sheets.specs.Counts.{capped, counted, onceCounted, addedTo, timesOf};
 use model::ByteAddress;
@@ -60,18 +59,15 @@ pub enum Verdict {
 
 // ---- entry 1
 
-fn choose(test: bool, a: u32, b: u32) -> u32
-    ensures { λ r. ⌜ r ≡ cond test a b ⌝ }
-{
-    if test { a } else { b }
-}
-
 // How many words stand after n.
 fn carries(o: Operation) -> u32
     ensures { λ r. ⌜ r ≡ carried o ⌝ }
 {
     let few = o.count <= MAX_CARRIED;
-    choose(places::is_program(o) & few, o.count, 0)
+    if places::is_program(o) & few {
+        return o.count;
+    }
+    0
 }
 
 // The entry whose tag stands before `at`.
@@ -102,10 +98,14 @@ pub fn stated_at(s: &[u8], at: usize) -> Stated
 
 // ---- counts
 
-fn cap(n: u64) -> u32
+fn cap(n: usize) -> u32
     ensures { λ r. ⌜ r ≡ capped n ⌝ }
 {
-    if n <= 4096 { n as u32 } else { TOO_MANY }
+    if n <= WIDE_MAX_ENTRIES {
+        n as u32
+    } else {
+        TOO_MANY
+    }
 }
 
 fn once(r: Parsed) -> Parsed
@@ -122,7 +122,7 @@ fn added(a: u32, rest: Parsed) -> Parsed
 {
     match rest {
         Parsed::Number { value, next } => Parsed::Number {
-            value: cap(a as u64 + value as u64),
+            value: cap(a as usize + value as usize),
             next,
         },
         Parsed::Bad(p) => Parsed::Bad(p),
@@ -134,7 +134,7 @@ fn times(k: u32, block: Parsed) -> Parsed
 {
     match block {
         Parsed::Number { value, next } => Parsed::Number {
-            value: cap(k as u64 * value as u64),
+            value: cap(k as usize * value as usize),
             next,
         },
         Parsed::Bad(p) => Parsed::Bad(p),

@@ -71,7 +71,7 @@ pub +lay-block+lay-entry-spec : {M : Type 1} → statement M
     let e = x .before .before in
     let o = e .before .before in
     lays-end (o .args .s .now) (o .args .at) (o .args .depth) (o .args .n) (o .pre .1) _ _ (x .before .value-of .ensures ∙ ap valueOf (e .number .ensures))
-        (x .next-of .ensures ∙ ap nextOf (e .number .ensures)) (c .if1 .taken))
+    (x .next-of .ensures ∙ ap nextOf (e .number .ensures)) (c .if1 .taken))
     (λ c κs.
     let x = c .before .before in
     let e = x .before .before in
@@ -96,7 +96,7 @@ pub +lay-block+lay-entry-spec : {M : Type 1} → statement M
     let v = x .before .value-of .ensures ∙ ap valueOf (e .number .ensures) in
     let y = x .next-of .ensures ∙ ap nextOf (e .number .ensures) in
     lays-both (o .args .s .now) (o .args .at) (o .args .depth) (o .args .n) (o .pre .1) _ _ v y (c .before .before .before .before .if1 .left) (o .args .places .now) _ _ (c .before .before .lay-entry .ensures .0)
-        (c .before .before .lay-entry .ensures .1) (c .lay-block .ensures .0) (c .lay-block .ensures .1)))
+    (c .before .before .lay-entry .ensures .1) (c .lay-block .ensures .0) (c .lay-block .ensures .1)))
     (λ t. lay-entry-lts.spec
     (number-to-reads.Asked, number-to-reads.Learnt, value-of-reads.Asked, value-of-reads.Learnt, next-of-reads.Asked, next-of-reads.Learnt, lay-block-below t, lay-block.Post, last-number-reads.Asked, last-number-reads.Learnt)
     (lay-entry-at t)

@@ -52,9 +52,12 @@ run-spec =
     let e = sym (v .verdict .given .1) ∙ v .before .before .judge .ensures in
     let i = l .loop .i in
     let h = p .before .before .before .loop-test .taken in
-    let at = runs-at _ _ e (l .before .expand .ensures) i h in
-    (omega arith, l .loop .inv .1, c .before .before .before .image .given ∙ l .loop .inv .2,
-        running-more (runs-there _ _ e i h) (l .loop .inv .3) (p .perform .result) (rw at at (p .perform .ensures)) (c .write .ensures .0) (c .write .ensures .1)))
+    let at = runs-at _ _ e (l .before .expand .ensures) i h in (
+      omega arith,
+      l .loop .inv .1,
+      c .before .before .before .image .given ∙ l .loop .inv .2,
+      running-more (runs-there _ _ e i h) (l .loop .inv .3) (p .perform .result) (rw at at (p .perform .ensures)) (c .write .ensures .0) (c .write .ensures .1),
+    ))
     (λ c. let q = c .before .loop .inv .3 .few in omega arith)
     (λ c. search needs)
     (λ c.

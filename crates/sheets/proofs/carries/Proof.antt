@@ -1,4 +1,5 @@
 -- `sheets::carries` meets its contract. Assumes nothing.
+use mathlib.Core.Path.{refl}
 use Rattle.sheets.specs.Sheet.{carried}
 use Rattle.sheets.proofs.carries.Statement.{statement}
 use Rattle.sheets.proofs.carries.Tie as tie
@@ -9,5 +10,5 @@ carries-spec =
     tie.close
     (tie.spec
     (λ c κs. tt)
-    (λ c κs. tt)
-    (λ c. rw (← c .before .is-program .ensures) (c .choose .ensures)))
+    (λ c. rw (← c .before .is-program .ensures, c .if1 .taken) refl)
+    (λ c. rw (← c .before .is-program .ensures, c .if1 .left) refl))
