@@ -1,5 +1,5 @@
 -- A good sheet has room in a row of 4,096, and where its entries are found there. Assumes nothing.
-use Prim.Native.Nat.{ℕ, _+_, _≤_, _<_}
+use Prim.Native.Nat.{ℕ, _≤_, _<_}
 use native.Mathlib.Omega.{arith}
 use mathlib.Core.Path.{_≡_, refl}
 use mathlib.Core.Bool.{true, false}
@@ -8,7 +8,7 @@ use lib.ListN.{length, getD, List·getD-append}
 use lib.Seq.{sets, sets-eq}
 use lib.Dec.{leb}
 use Rattle.model.proofs.Bool.{by-test}
-use Rattle.sheets.specs.Sheet.{Meaning, blockAt, placesOf, judged, verdictOf}
+use Rattle.sheets.specs.Sheet.{Meaning, blockAt, judged, verdictOf}
 use Rattle.sheets.specs.Sheet.Meaning.{Runs, Fault}
 use Rattle.sheets.specs.declared.Verdict.the-variants.{Good, Refused}
 use Rattle.sheets.proofs.Counting.{good-runs}

@@ -1,18 +1,17 @@
 -- What each way through `lay_block` and `lay_entry` lays. Assumes nothing.
-use Prim.Native.Nat.{ℕ, suc, _+_, _-_, _≤_, _<_}
+use Prim.Native.Nat.{ℕ, _+_, _-_, _≤_, _<_}
 use native.Mathlib.Omega.{arith}
 use mathlib.Core.Path.{_≡_, refl, ap, sym, _∙_}
 use mathlib.Core.Bool.{true, false, cond, _&&_}
-use mathlib.Core.List.{List, [], _∷_, _++_}
+use mathlib.Core.List.{List, [], _++_}
 use lib.ListN.{length, set, length-append}
 use lib.Seq.{sets}
 use lib.Dec.{ltb, eqb}
 use Rattle.numbers.specs.declared.Parsed.{Parsed}
 use Rattle.numbers.specs.Number.{numberAt, numberTo, valueOf, nextOf}
 use Rattle.numbers.proofs.Laws.{number-to-small}
-use Rattle.sheets.specs.Sheet.{statedAt, Meaning, copies, followed, blockAt, entryAt, placesOf}
+use Rattle.sheets.specs.Sheet.{statedAt, copies, followed, blockAt, entryAt, placesOf}
 use Rattle.sheets.specs.Sheet.Meaning.{Runs}
-use Rattle.sheets.proofs.Counting.{length-copies, many}
 use Rattle.sheets.proofs.Loading.{sets-append}
 use Rattle.expansions.specs.declared.Laid.{Laid}
 use Rattle.expansions.specs.Laying.{reads, endOf, Room, laidBy}

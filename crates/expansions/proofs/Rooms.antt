@@ -1,12 +1,12 @@
 -- What room for a block or an entry says of its parts: which numbers stand there, and room for each part. Assumes nothing.
-use Prim.Native.Nat.{ℕ, suc, _+_, _*_, _≤_, _<_}
+use Prim.Native.Nat.{ℕ, _+_, _≤_, _<_}
 use native.Mathlib.Omega.{arith}
-use mathlib.Core.Path.{_≡_, refl, ap, sym, _∙_, subst}
-use mathlib.Core.Bool.{Bool, true, false, cond, _&&_, false≢true}
+use mathlib.Core.Path.{_≡_, refl, _∙_}
+use mathlib.Core.Bool.{Bool, true, false, cond, false≢true}
 use mathlib.Core.List.{List, [], _∷_, _++_}
 use lib.ListN.{length, length-append}
 use lib.Dec.{ltb, eqb}
-use borrow.Author.Tests.{eqb-true, eqb-false, ne-eqb, eq-eqb, ltb-true}
+use borrow.Author.Tests.{eqb-false, ne-eqb, ltb-true}
 use Rattle.model.proofs.Bool.{by-test}
 use Rattle.numbers.specs.declared.Parsed.{Parsed}
 use Rattle.numbers.specs.declared.Parsed.the-variants.{Number, Bad}
@@ -14,7 +14,7 @@ use Rattle.numbers.specs.Number.{numberAt, numberTo, valueOf, nextOf}
 use Rattle.numbers.proofs.Laws.{Goes, number-goes, number-to-goes}
 use Rattle.sheets.specs.Sheet.{statedAt, Meaning, after, once, copies, repeated, before, followed, repeatAt, entryWith, blockAt, entryAt, placesOf}
 use Rattle.sheets.specs.Sheet.Meaning.{Runs, Fault}
-use Rattle.sheets.proofs.Forward.{Fwd, block-fwd, entry-fwd, block-is, entry-forward}
+use Rattle.sheets.proofs.Forward.{Fwd, block-is, entry-forward}
 use Rattle.expansions.specs.Laying.{reads, endOf, Room}
 
 -- What has a fault has no room.

@@ -1,8 +1,6 @@
 -- Numbers, worked out. Assumes nothing.
-use Prim.Native.Nat.{ℕ}
 use mathlib.Core.Path.{_≡_, refl}
-use mathlib.Core.List.{List, [], _∷_, map}
-use Rattle.numbers.specs.declared.Parsed.{Parsed}
+use mathlib.Core.List.{[], _∷_, map}
 use Rattle.numbers.specs.declared.Parsed.the-variants.{Number, Bad}
 use Rattle.numbers.specs.Number.{continued, lastGroup, groupsValue, shortest, numberBetween, numberAt, limited, numberTo, thenNumber, thenNumbers}
 

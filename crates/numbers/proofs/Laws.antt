@@ -14,7 +14,7 @@ use borrow.Author.Tests.{le-leb, lt-leb, le-ltb, lt-ltb, ltb-true, leb-true, leb
 use Rattle.model.proofs.Bool.{and-right, which}
 use Rattle.numbers.specs.declared.Parsed.{Parsed}
 use Rattle.numbers.specs.declared.Parsed.the-variants.{Number, Bad}
-use Rattle.numbers.specs.Number.{largest, continued, lastGroup, groupsValue, shortest, numberBetween, numberAt, limited, numberTo, thenNumber, thenNumbers, valueOf, nextOf}
+use Rattle.numbers.specs.Number.{largest, continued, lastGroup, groupsValue, shortest, numberBetween, numberAt, limited, numberTo, thenNumber, thenNumbers, valueOf}
 
 -- ---- the last group
 

@@ -1,7 +1,6 @@
 -- Runs of bench sheets from the state in which the program starts, worked out. Assumes nothing.
-use Prim.Native.Nat.{ℕ}
 use mathlib.Core.Path.{_≡_, refl}
-use mathlib.Core.List.{List, [], _∷_}
+use mathlib.Core.List.{[], _∷_}
 use mathlib.Core.Bool.{false}
 use lib.ListN.{replicate}
 use Rattle.model.specs.Geometry.{imagePage, wordAt}
@@ -23,7 +22,7 @@ use Rattle.calls.specs.Calls.{setDefaultIn, resetIn, initialiseIn, wholeIn}
 use Rattle.numbers.specs.Number.{continued, lastGroup, groupsValue, shortest, numberBetween, numberAt, limited, numberTo, thenNumber, thenNumbers}
 use Rattle.sheets.specs.declared.Verdict.the-variants.{Good}
 use Rattle.sheets.specs.Sheet.{kindAt, partitionAt, typeAt, addressAt, countAt, operationAt, carried, statedAt, entryWith, blockWith, blockAt, verdictOf, expanded, requestAt, wordsFrom, loaded}
-use Rattle.sheet_run.specs.Run.{BenchLeaves, requested, performed, performedAll, run, benchFlash, benchRegisters, benchRun}
+use Rattle.sheet_run.specs.Run.{requested, performed, performedAll, run, benchRegisters, benchRun}
 
 -- Ready, D = 16, both inputs off, and no rights.
 pub begins : (decode benchRegisters .phase ≡ Ready) × (decode benchRegisters .setup .pages ≡ 16)

@@ -1,8 +1,8 @@
 -- A run, entry by entry: what the first of them leave. Assumes nothing.
-use mathlib.Core.Path.{_≡_, refl, ap, sym, _∙_}
+use mathlib.Core.Path.{_≡_, refl, ap, _∙_}
 use mathlib.Core.Bool.{Bool, true, false}
-use mathlib.Core.List.{List, [], _∷_, _++_, append-nil, append-assoc}
-use Prim.Native.Nat.{ℕ, suc, _+_, _*_, _≤_, _<_}
+use mathlib.Core.List.{List, [], _∷_, _++_, append-nil}
+use Prim.Native.Nat.{ℕ, _+_, _*_, _≤_, _<_}
 use native.Mathlib.Omega.{arith}
 use native.Mathlib.Numerals.{add-one}
 use lib.ListN.{length, getD, take, replicate, length-append, length-replicate}
@@ -19,7 +19,7 @@ use Rattle.sheets.proofs.Counting.{good-runs, bad-runs, expanded-few}
 use Rattle.sheets.proofs.Loading.{sets-append}
 use Rattle.expansions.proofs.Goods.{stored-at}
 use Rattle.sheet_run.specs.declared.Line.{Line}
-use Rattle.sheet_run.specs.Run.{Bench, requested, performed, performedAll, SheetLeaves, leftBy, run, benchFlash, benchRegisters, rowOf, benchRun, printedOf}
+use Rattle.sheet_run.specs.Run.{Bench, requested, performed, performedAll, SheetLeaves, run, benchFlash, benchRegisters, rowOf, benchRun, printedOf}
 
 -- ---- one entry
 

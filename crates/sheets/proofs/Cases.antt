@@ -1,12 +1,10 @@
 -- Bench sheets, worked out. Assumes nothing.
 use Prim.Native.Nat.{ℕ}
 use mathlib.Core.Path.{_≡_, refl}
-use mathlib.Core.List.{List, [], _∷_, map}
+use mathlib.Core.List.{[], _∷_, map}
 use lib.ListN.{replicate, take}
 use Rattle.numbers.specs.Number.{continued, lastGroup, groupsValue, shortest, numberBetween, numberAt, limited, numberTo, thenNumber, thenNumbers}
-use Rattle.sheets.specs.declared.Request.{Request}
 use Rattle.sheets.specs.declared.Request.the-variants.{Whole, Rights}
-use Rattle.sheets.specs.declared.Verdict.{Verdict}
 use Rattle.sheets.specs.declared.Verdict.the-variants.{Good, Refused}
 use Rattle.sheets.specs.Sheet.{kindAt, partitionAt, typeAt, addressAt, countAt, operationAt, carried, statedAt, entryWith, blockWith, blockAt, verdictOf, expanded, requestAt, wordsFrom, loaded}
 
@@ -36,7 +34,8 @@ pub verdicts : map verdictOf (
     ∷ (2 ∷ 255 ∷ 1 ∷ 2 ∷ 255 ∷ 1 ∷ 3 ∷ 7 ∷ 0 ∷ 0 ∷ 0 ∷ 9 ∷ [])
     ∷ (2 ∷ 3 ∷ 1 ∷ 0 ∷ 0 ∷ 0 ∷ 0 ∷ 1 ∷ 0 ∷ 0 ∷ [])
     ∷ [])
-    ≡ Refused 0 ∷ Good 0 ∷ Refused 1 ∷ Refused 1 ∷ Refused 0 ∷ Refused 7 ∷ Refused 0 ∷ Refused 0 ∷ Refused 1 ∷ Refused 6 ∷ Refused 4 ∷ Refused 1 ∷ Refused 1 ∷ Refused 1 ∷ Refused 3 ∷ Good 1 ∷ Refused 16 ∷ Good 0 ∷ Refused 0 ∷ Refused 11 ∷ Good 3 ∷ []
+    ≡ Refused 0 ∷ Good 0 ∷ Refused 1 ∷ Refused 1 ∷ Refused 0 ∷ Refused 7 ∷ Refused 0 ∷ Refused 0 ∷ Refused 1
+    ∷ Refused 6 ∷ Refused 4 ∷ Refused 1 ∷ Refused 1 ∷ Refused 1 ∷ Refused 3 ∷ Good 1 ∷ Refused 16 ∷ Good 0 ∷ Refused 0 ∷ Refused 11 ∷ Good 3 ∷ []
 unfolding verdictOf blockAt blockWith entryWith statedAt operationAt kindAt partitionAt typeAt addressAt countAt carried continued lastGroup groupsValue shortest numberBetween numberAt limited numberTo thenNumber thenNumbers
 verdicts = refl
 

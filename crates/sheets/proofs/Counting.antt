@@ -14,7 +14,7 @@ use Rattle.numbers.specs.declared.Parsed.{Parsed}
 use Rattle.numbers.specs.declared.Parsed.the-variants.{Number, Bad}
 use Rattle.numbers.specs.Number.{numberAt, numberTo}
 use Rattle.numbers.proofs.Laws.{Goes, number-goes, number-to-goes}
-use Rattle.sheets.specs.Sheet.{statedAt, Meaning, after, once, copies, repeated, before, followed, repeatAt, entryWith, blockAt, entryAt, placesOf, judged, verdictOf, expanded}
+use Rattle.sheets.specs.Sheet.{statedAt, Meaning, after, once, copies, repeated, before, followed, entryWith, blockAt, entryAt, placesOf, judged, verdictOf, expanded}
 use Rattle.sheets.specs.Sheet.Meaning.{Runs, Fault}
 use Rattle.sheets.specs.Counts.{capped, counted, onceCounted, addedTo, timesOf}
 use Rattle.sheets.specs.declared.Verdict.{Verdict}

@@ -13,7 +13,7 @@ use Rattle.numbers.specs.declared.Parsed.{Parsed}
 use Rattle.numbers.specs.declared.Parsed.the-variants.{Number, Bad}
 use Rattle.numbers.specs.Number.{largest, numberAt, numberTo}
 use Rattle.numbers.proofs.Laws.{Goes, number-goes, number-to-goes, then-goes, numbers-go, number-none}
-use Rattle.sheets.specs.Sheet.{kindAt, partitionAt, typeAt, addressAt, countAt, operationAt, carried, statedAt, Meaning, after, once, repeated, before, followed, repeatAt, entryWith, blockWith, blockAt, entryAt}
+use Rattle.sheets.specs.Sheet.{kindAt, partitionAt, typeAt, addressAt, countAt, operationAt, carried, statedAt, Meaning, after, once, repeated, before, followed, entryWith, blockWith, blockAt, entryAt}
 use Rattle.sheets.specs.Sheet.Meaning.{Runs, Fault}
 
 stated-goes : (s : List ℕ) (at : ℕ) → Goes s at (statedAt s at .end)

@@ -1,17 +1,10 @@
 -- `expansions::lay_block` and `lay_entry` meet their contracts: the bytes left fall at each call. Assumes nothing.
-use mathlib.Core.Path.{_≡_, refl, ap, sym, _∙_}
-use mathlib.Core.Bool.{_&&_}
-use mathlib.Core.List.{_++_}
+use mathlib.Core.Path.{ap, _∙_}
 use Prim.Native.Nat.{ℕ, _<_, _-_, _+_}
 use native.Mathlib.Omega.{arith}
-use borrow.Author.Needs.{needs}
-use borrow.Author.Tests.{ltb-true}
 use lib.ListN.{length}
-use lib.Seq.{sets}
-use Rattle.model.proofs.Bool.{and-left, and-right}
-use Rattle.numbers.specs.Number.{numberAt, valueOf, nextOf}
-use Rattle.sheets.specs.Sheet.{blockAt, entryAt, placesOf}
-use Rattle.sheets.proofs.Loading.{sets-append}
+use Rattle.numbers.specs.Number.{valueOf, nextOf}
+use Rattle.sheets.specs.Sheet.{blockAt}
 use Rattle.expansions.specs.declared.Laid.{Laid}
 use Rattle.expansions.proofs.Turns.{goes-on, Turning, turning-room, turning-more}
 use Rattle.expansions.proofs.Lays.{tag-falls, lays-end, first-room, rest-room, lays-both, once-room, lays-once, shallow, count-falls, count-some, count-small, turn-room, turns-begin, lays-turns}
@@ -70,32 +63,36 @@ pub +lay-block+lay-entry-spec : {M : Type 1} → statement M
     let x = c .before in
     let e = x .before .before in
     let o = e .before .before in
-    lays-end (o .args .s .now) (o .args .at) (o .args .depth) (o .args .n) (o .pre .1) _ _ (x .before .value-of .ensures ∙ ap valueOf (e .number .ensures))
+    let a = o .args in
+    lays-end (a .s .now) (a .at) (a .depth) (a .n) (o .pre .1) _ _ (x .before .value-of .ensures ∙ ap valueOf (e .number .ensures))
     (x .next-of .ensures ∙ ap nextOf (e .number .ensures)) (c .if1 .taken))
     (λ c κs.
     let x = c .before .before in
     let e = x .before .before in
     let o = e .before .before in
+    let a = o .args in
     let v = x .before .value-of .ensures ∙ ap valueOf (e .number .ensures) in
     let y = x .next-of .ensures ∙ ap nextOf (e .number .ensures) in
-    let h = tag-falls (o .args .s .now) (o .args .at) (o .args .depth) (o .args .n) (o .pre .1) _ _ v y in
-    (omega arith, first-room (o .args .s .now) (o .args .at) (o .args .depth) (o .args .n) (o .pre .1) _ _ v y (c .before .if1 .left)))
+    let h = tag-falls (a .s .now) (a .at) (a .depth) (a .n) (o .pre .1) _ _ v y in
+    (omega arith, first-room (a .s .now) (a .at) (a .depth) (a .n) (o .pre .1) _ _ v y (c .before .if1 .left)))
     (λ c κs.
     let x = c .before .before .before .before in
     let e = x .before .before in
     let o = e .before .before in
+    let a = o .args in
     let v = x .before .value-of .ensures ∙ ap valueOf (e .number .ensures) in
     let y = x .next-of .ensures ∙ ap nextOf (e .number .ensures) in
-    let h = tag-falls (o .args .s .now) (o .args .at) (o .args .depth) (o .args .n) (o .pre .1) _ _ v y in
-    let w = rest-room (o .args .s .now) (o .args .at) (o .args .depth) (o .args .n) (o .pre .1) _ _ v y (c .before .before .before .if1 .left) _ (c .before .lay-entry .ensures .1) in
+    let h = tag-falls (a .s .now) (a .at) (a .depth) (a .n) (o .pre .1) _ _ v y in
+    let w = rest-room (a .s .now) (a .at) (a .depth) (a .n) (o .pre .1) _ _ v y (c .before .before .before .if1 .left) _ (c .before .lay-entry .ensures .1) in
     (omega (arith, w .1), w .0))
     (λ c.
     let x = c .before .before .before .before .before in
     let e = x .before .before in
     let o = e .before .before in
+    let a = o .args in
     let v = x .before .value-of .ensures ∙ ap valueOf (e .number .ensures) in
     let y = x .next-of .ensures ∙ ap nextOf (e .number .ensures) in
-    lays-both (o .args .s .now) (o .args .at) (o .args .depth) (o .args .n) (o .pre .1) _ _ v y (c .before .before .before .before .if1 .left) (o .args .places .now) _ _ (c .before .before .lay-entry .ensures .0)
+    lays-both (a .s .now) (a .at) (a .depth) (a .n) (o .pre .1) _ _ v y (c .before .before .before .before .if1 .left) (a .places .now) _ _ (c .before .before .lay-entry .ensures .0)
     (c .before .before .lay-entry .ensures .1) (c .lay-block .ensures .0) (c .lay-block .ensures .1)))
     (λ t. lay-entry-lts.spec
     (number-to-reads.Asked, number-to-reads.Learnt, value-of-reads.Asked, value-of-reads.Learnt, next-of-reads.Asked, next-of-reads.Learnt, lay-block-below t, lay-block.Post, last-number-reads.Asked, last-number-reads.Learnt)
@@ -110,92 +107,112 @@ pub +lay-block+lay-entry-spec : {M : Type 1} → statement M
     let x = c in
     let e = x .before .before in
     let o = e .before .before .before in
+    let a = o .args in
     let two = e .before .if1 .taken in
     let v = x .before .value-of .ensures ∙ ap valueOf (e .number-to .ensures) in
     let y = x .next-of .ensures ∙ ap nextOf (e .number-to .ensures) in
-    omega (arith, shallow (o .args .s .now) (o .args .at) (o .args .next) (o .args .tag) (o .args .depth) (o .args .n) (o .pre .1) two _ _ v y))
+    omega (arith, shallow (a .s .now) (a .at) (a .next) (a .tag) (a .depth) (a .n) (o .pre .1) two _ _ v y))
     (λ c κs.
     let x = c .before in
     let e = x .before .before in
     let o = e .before .before .before in
+    let a = o .args in
     let two = e .before .if1 .taken in
     let v = x .before .value-of .ensures ∙ ap valueOf (e .number-to .ensures) in
     let y = x .next-of .ensures ∙ ap nextOf (e .number-to .ensures) in
-    (omega (arith, count-falls (o .args .s .now) (o .args .at) (o .args .next) (o .args .tag) (o .args .depth) (o .args .n) (o .pre .1) two _ _ v y), turn-room (o .args .s .now) (o .args .at) (o .args .next) (o .args .tag) (o .args .depth) (o .args .n) (o .pre .1) two _ _ v y))
+    let h = count-falls (a .s .now) (a .at) (a .next) (a .tag) (a .depth) (a .n) (o .pre .1) two _ _ v y in
+    (omega arith, turn-room (a .s .now) (a .at) (a .next) (a .tag) (a .depth) (a .n) (o .pre .1) two _ _ v y))
     (λ c.
     let x = c .before .before in
     let e = x .before .before in
     let o = e .before .before .before in
+    let a = o .args in
     let two = e .before .if1 .taken in
     let v = x .before .value-of .ensures ∙ ap valueOf (e .number-to .ensures) in
     let y = x .next-of .ensures ∙ ap nextOf (e .number-to .ensures) in
-    count-some (o .args .s .now) (o .args .at) (o .args .next) (o .args .tag) (o .args .depth) (o .args .n) (o .pre .1) two _ _ v y)
+    count-some (a .s .now) (a .at) (a .next) (a .tag) (a .depth) (a .n) (o .pre .1) two _ _ v y)
     (λ c.
     let x = c .before .before in
     let e = x .before .before in
     let o = e .before .before .before in
+    let a = o .args in
     let two = e .before .if1 .taken in
     let v = x .before .value-of .ensures ∙ ap valueOf (e .number-to .ensures) in
     let y = x .next-of .ensures ∙ ap nextOf (e .number-to .ensures) in
-    turns-begin (o .args .s .now) (o .args .at) (o .args .next) (o .args .tag) (o .args .depth) (o .args .n) (o .pre .1) two _ _ v y _ (c .lay-block .ensures .1))
+    turns-begin (a .s .now) (a .at) (a .next) (a .tag) (a .depth) (a .n) (o .pre .1) two _ _ v y _ (c .lay-block .ensures .1))
     (λ c.
     let x = c .before .before .before .before in
     let e = x .before .before in
     let o = e .before .before .before in
+    let a = o .args in
     let two = e .before .if1 .taken in
     let v = x .before .value-of .ensures ∙ ap valueOf (e .number-to .ensures) in
     let y = x .next-of .ensures ∙ ap nextOf (e .number-to .ensures) in
-    omega (arith, shallow (o .args .s .now) (o .args .at) (o .args .next) (o .args .tag) (o .args .depth) (o .args .n) (o .pre .1) two _ _ v y))
+    omega (arith, shallow (a .s .now) (a .at) (a .next) (a .tag) (a .depth) (a .n) (o .pre .1) two _ _ v y))
     (λ c κs.
     let x = c .before .before .before .before .before in
     let e = x .before .before in
     let o = e .before .before .before in
+    let a = o .args in
     let two = e .before .if1 .taken in
     let v = x .before .value-of .ensures ∙ ap valueOf (e .number-to .ensures) in
     let y = x .next-of .ensures ∙ ap nextOf (e .number-to .ensures) in
-    (omega (arith, count-falls (o .args .s .now) (o .args .at) (o .args .next) (o .args .tag) (o .args .depth) (o .args .n) (o .pre .1) two _ _ v y), turning-room (c .before .before .loop .inv) (goes-on _ _ (o .args .n) (c .before .before .loop .count) (c .before .loop-test .taken))))
+    let h = count-falls (a .s .now) (a .at) (a .next) (a .tag) (a .depth) (a .n) (o .pre .1) two _ _ v y in
+    (omega arith, turning-room (c .before .before .loop .inv) (goes-on _ _ (a .n) (c .before .before .loop .count) (c .before .loop-test .taken))))
     (λ c.
     let x = c .before .before .before .before .before .before in
     let e = x .before .before in
     let o = e .before .before .before in
+    let a = o .args in
     let two = e .before .if1 .taken in
     let v = x .before .value-of .ensures ∙ ap valueOf (e .number-to .ensures) in
     let y = x .next-of .ensures ∙ ap nextOf (e .number-to .ensures) in
     let l = c .before .before .before .loop in
-    omega (arith, count-small (o .args .s .now) (o .args .at) (o .args .next) (o .args .tag) (o .args .depth) (o .args .n) (o .pre .1) two _ _ v y, goes-on (l .again) (x .before .value-of .result - 1) (o .args .n) (l .count) (c .before .before .loop-test .taken)))
+    let h = count-small (a .s .now) (a .at) (a .next) (a .tag) (a .depth) (a .n) (o .pre .1) two _ _ v y in
+    omega (arith, h, goes-on (l .again) (x .before .value-of .result - 1) (a .n) (l .count) (c .before .before .loop-test .taken)))
     (λ c.
     let x = c .before .before .before .before .before .before in
     let e = x .before .before in
     let o = e .before .before .before in
+    let a = o .args in
     let two = e .before .if1 .taken in
     let v = x .before .value-of .ensures ∙ ap valueOf (e .number-to .ensures) in
     let y = x .next-of .ensures ∙ ap nextOf (e .number-to .ensures) in
     let l = c .before .before .before .loop in
-    let h = goes-on (l .again) (x .before .value-of .result - 1) (o .args .n) (l .count) (c .before .before .loop-test .taken) in
+    let h = goes-on (l .again) (x .before .value-of .result - 1) (a .n) (l .count) (c .before .before .loop-test .taken) in
     omega arith)
-    (λ c. turning-more (c .before .before .before .loop .inv) (goes-on _ _ (c .before .before .before .before .before .before .before .before .before .before .before .args .n) _ (c .before .before .loop-test .taken)) (c .lay-block2 .ensures .0) (ap (λ (l : Laid). l .count) (c .lay-block2 .ensures .1)))
+    (λ c.
+    let l = c .before .before .before in
+    let a = l .before .before .before .before .before .before .before .before .args in
+    turning-more (l .loop .inv) (goes-on _ _ (a .n) _ (c .before .before .loop-test .taken)) (c .lay-block2 .ensures .0) (ap (λ (x : Laid). x .count) (c .lay-block2 .ensures .1)))
     (λ c.
     let x = c .before .before .before .before in
     let e = x .before .before in
     let o = e .before .before .before in
+    let a = o .args in
     let two = e .before .if1 .taken in
     let v = x .before .value-of .ensures ∙ ap valueOf (e .number-to .ensures) in
     let y = x .next-of .ensures ∙ ap nextOf (e .number-to .ensures) in
     let b = c .before .before .lay-block in
-    lays-turns (o .args .s .now) (o .args .at) (o .args .next) (o .args .tag) (o .args .depth) (o .args .n) (o .pre .1) two _ _ v y (o .args .places .now) (b .result) (b .ensures .0) (b .ensures .1) (c .before .loop .inv) (c .loop-test .left))
+    lays-turns (a .s .now) (a .at) (a .next) (a .tag) (a .depth) (a .n) (o .pre .1) two _ _ v y
+    (a .places .now) (b .result) (b .ensures .0) (b .ensures .1) (c .before .loop .inv) (c .loop-test .left))
     (λ c κs. tt)
     (λ c.
     let o = c .before .before .before in
-    omega (arith, once-room (o .args .s .now) (o .args .at) (o .args .next) (o .args .tag) (o .args .depth) (o .args .n) (o .pre .1) (c .before .if1 .left) _ (c .last-number .ensures)))
+    let a = o .args in
+    omega (arith, once-room (a .s .now) (a .at) (a .next) (a .tag) (a .depth) (a .n) (o .pre .1) (c .before .if1 .left) _ (c .last-number .ensures)))
     (λ c.
     let o = c .before .before .before in
-    once-room (o .args .s .now) (o .args .at) (o .args .next) (o .args .tag) (o .args .depth) (o .args .n) (o .pre .1) (c .before .if1 .left) _ (c .last-number .ensures))
+    let a = o .args in
+    once-room (a .s .now) (a .at) (a .next) (a .tag) (a .depth) (a .n) (o .pre .1) (c .before .if1 .left) _ (c .last-number .ensures))
     (λ c κs. tt)
     (λ c.
     let l = c .before in
     let o = l .before .before .before in
-    omega (arith, once-room (o .args .s .now) (o .args .at) (o .args .next) (o .args .tag) (o .args .depth) (o .args .n) (o .pre .1) (l .before .if1 .left) _ (l .last-number .ensures)))
+    let a = o .args in
+    omega (arith, once-room (a .s .now) (a .at) (a .next) (a .tag) (a .depth) (a .n) (o .pre .1) (l .before .if1 .left) _ (l .last-number .ensures)))
     (λ c.
     let l = c .before in
     let o = l .before .before .before in
-    lays-once (o .args .s .now) (o .args .at) (o .args .next) (o .args .tag) (o .args .depth) (o .args .n) (o .pre .1) (l .before .if1 .left) _ (l .last-number .ensures) (c .next-of2 .ensures) (o .args .places .now)))
+    let a = o .args in
+    lays-once (a .s .now) (a .at) (a .next) (a .tag) (a .depth) (a .n) (o .pre .1) (l .before .if1 .left) _ (l .last-number .ensures) (c .next-of2 .ensures) (a .places .now)))

@@ -1,7 +1,6 @@
--- Assumes nothing.
+-- `numbers::last_group` meets its contract. The loop's invariant: the last group is not before i. Assumes nothing.
 use mathlib.Core.Path.{_≡_, refl, sym, _∙_}
 use Prim.Native.Nat.{_-_}
-use native.Mathlib.Omega.{arith}
 use borrow.Author.Needs.{needs}
 use lib.ListN.{length}
 use Rattle.numbers.specs.Number.{lastGroup}

@@ -1,9 +1,8 @@
--- Assumes nothing.
-use mathlib.Core.Path.{_≡_, refl, sym, _∙_, ap}
-use native.Mathlib.Omega.{arith}
+-- `numbers::number_to` meets its contract. Assumes nothing.
+use mathlib.Core.Path.{refl}
 use borrow.Author.Needs.{needs}
 use borrow.Author.Tests.{le-leb, lt-leb}
-use Rattle.numbers.specs.Number.{numberAt, limited, numberTo}
+use Rattle.numbers.specs.Number.{limited, numberTo}
 use Rattle.numbers.proofs.number_to.Statement.{statement}
 use Rattle.numbers.proofs.number_to.Tie as tie
 

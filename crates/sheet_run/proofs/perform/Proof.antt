@@ -1,5 +1,5 @@
 -- `sheet_run::perform` meets its contract. Assumes nothing.
-use mathlib.Core.Path.{_≡_, refl, ap, sym, _∙_}
+use mathlib.Core.Path.{refl}
 use borrow.Author.Needs.{needs}
 use Rattle.sheet_run.specs.Run.{requested, performed}
 use Rattle.sheet_run.proofs.perform.Statement.{statement}

@@ -5,8 +5,6 @@ use native.Mathlib.Omega.{arith}
 use borrow.Author.Needs.{needs}
 use lib.ListN.{length}
 use Rattle.model.specs.State.{flash}
-use Rattle.sheets.specs.declared.Verdict.the-variants.{Good}
-use Rattle.sheets.specs.Sheet.{verdictOf, expanded}
 use Rattle.expansions.proofs.Goods.{good-room}
 use Rattle.sheet_run.proofs.Running.{Running, running-none, running-more, runs-few, runs-there, runs-at, run-good, run-bad}
 use Rattle.sheet_run.proofs.run.Statement.{statement}

@@ -1,10 +1,9 @@
--- Assumes nothing.
-use mathlib.Core.Path.{_≡_, refl, ap, sym, _∙_}
+-- `sheets::block` and `entry` meet their contracts: the bytes left fall at each call. Assumes nothing.
+use mathlib.Core.Path.{ap, sym, _∙_}
 use Prim.Native.Nat.{ℕ, _<_, _-_}
 use native.Mathlib.Omega.{arith}
 use borrow.Author.Needs.{needs}
 use lib.ListN.{length}
-use Rattle.numbers.specs.declared.Parsed.{Parsed}
 use Rattle.sheets.specs.declared.Stated.{Stated}
 use Rattle.sheets.specs.Counts.{onceCounted, addedTo, timesOf}
 use Rattle.sheets.proofs.Counting.{block-bad, block-done, block-stops, block-goes, number-falls, entry-one, entry-three, entry-bad, entry-zero, entry-times, entry-deep, entry-none, entry-past, count-falls}
@@ -51,32 +50,94 @@ pub +block+entry-spec : {M : Type 1} → statement M
     (λ c κs. tt)
     (λ c. search needs)
     (λ c. search needs)
-    (λ c. let a = c .before .before .before .before .args in let e = c .enum-told .given .1 in e ∙ block-bad (a .s .now) (a .at) (a .depth) _ (sym e ∙ c .before .before .number .ensures))
-    (λ c. let a = c .before .before .before .before .before .before .args in block-done (a .s .now) (a .at) (a .depth) _ _ (sym (c .before .before .tag .given .1) ∙ c .before .before .before .before .number .ensures) (c .if1 .taken))
-    (λ c κs. let a = c .before .before .before .before .before .before .args in let h = number-falls (a .s .now) (a .at) (a .depth) _ _ (sym (c .before .before .tag .given .1) ∙ c .before .before .before .before .number .ensures) in (omega arith, tt))
+    (λ c.
+    let n = c .before .before in
+    let a = n .before .before .args in
+    let e = c .enum-told .given .1 in
+    e ∙ block-bad (a .s .now) (a .at) (a .depth) _ (sym e ∙ n .number .ensures))
+    (λ c.
+    let t = c .before .before in
+    let n = t .before .before in
+    let a = n .before .before .args in
+    let e = sym (t .tag .given .1) ∙ n .number .ensures in
+    block-done (a .s .now) (a .at) (a .depth) _ _ e (c .if1 .taken))
+    (λ c κs.
+    let t = c .before .before in
+    let n = t .before .before in
+    let a = n .before .before .args in
+    let e = sym (t .tag .given .1) ∙ n .number .ensures in
+    let h = number-falls (a .s .now) (a .at) (a .depth) _ _ e in
+    (omega arith, tt))
     (λ c. search needs)
     (λ c. search needs)
-    (λ c. let a = c .before .before .before .before .before .before .before .before .before .args in let e = c .enum-told2 .given .1 in e ∙ block-stops (a .s .now) (a .at) (a .depth) _ _ _ (sym (c .before .before .before .before .before .tag .given .1) ∙ c .before .before .before .before .before .before .before .number .ensures) (c .before .before .before .if1 .left) (sym e ∙ c .before .before .entry .ensures))
-    (λ c κs. let a = c .before .before .before .before .before .before .before .before .before .before .args in let h = number-falls (a .s .now) (a .at) (a .depth) _ _ (sym (c .before .before .before .before .before .before .tag .given .1) ∙ c .before .before .before .before .before .before .before .before .number .ensures) in let g = entry-past (a .s .now) (a .at) _ _ (a .depth) _ _ (sym (c .before .first .given .1) ∙ c .before .before .before .entry .ensures) in (omega arith, tt))
+    (λ c.
+    let t = c .before .before .before .before .before in
+    let n = t .before .before in
+    let a = n .before .before .args in
+    let e = sym (t .tag .given .1) ∙ n .number .ensures in
+    let f = c .enum-told2 .given .1 in
+    f ∙ block-stops (a .s .now) (a .at) (a .depth) _ _ _ e (c .before .before .before .if1 .left) (sym f ∙ c .before .before .entry .ensures))
+    (λ c κs.
+    let t = c .before .before .before .before .before .before in
+    let n = t .before .before in
+    let a = n .before .before .args in
+    let e = sym (t .tag .given .1) ∙ n .number .ensures in
+    let f = sym (c .before .first .given .1) ∙ c .before .before .before .entry .ensures in
+    let h = number-falls (a .s .now) (a .at) (a .depth) _ _ e in
+    let g = entry-past (a .s .now) (a .at) _ _ (a .depth) _ _ f in
+    (omega arith, tt))
     (λ c κs. tt)
-    (λ c. let a = c .before .before .before .before .before .before .before .before .before .before .before .before .args in c .added .ensures ∙ ap (addedTo _) (c .before .block .ensures) ∙ block-goes (a .s .now) (a .at) (a .depth) _ _ _ _ (sym (c .before .before .before .before .before .before .before .before .tag .given .1) ∙ c .before .before .before .before .before .before .before .before .before .before .number .ensures) (c .before .before .before .before .before .before .if1 .left) (sym (c .before .before .before .first .given .1) ∙ c .before .before .before .before .before .entry .ensures)))
+    (λ c.
+    let t = c .before .before .before .before .before .before .before .before in
+    let n = t .before .before in
+    let a = n .before .before .args in
+    let e = sym (t .tag .given .1) ∙ n .number .ensures in
+    let i = c .before .before .before in
+    let f = sym (i .first .given .1) ∙ i .before .before .entry .ensures in
+    c .added .ensures ∙ ap (addedTo _) (c .before .block .ensures) ∙ block-goes (a .s .now) (a .at) (a .depth) _ _ _ _ e (i .before .before .before .if1 .left) f))
     (λ t. entry-lts.spec (stated-at-reads.Asked, stated-at-reads.Learnt, once-reads.Asked, once-reads.Learnt, number-to-reads.Asked, number-to-reads.Learnt, block-below t, block.Post, times-reads.Asked, times-reads.Learnt)
     (entry-at t)
     entry.Post
     (λ c κs. tt)
     (λ c κs. tt)
-    (λ c. let a = c .before .before .before .before .args in c .once .ensures ∙ ap (λ (o : Stated). onceCounted (o .end)) (c .before .stated-at .ensures) ∙ entry-one (a .s .now) (a .at) (a .next) (a .tag) (a .depth) (c .before .before .if1 .taken))
+    (λ c.
+    let i = c .before .before in
+    let a = i .before .before .args in
+    c .once .ensures ∙ ap (λ (o : Stated). onceCounted (o .end)) (c .before .stated-at .ensures) ∙ entry-one (a .s .now) (a .at) (a .next) (a .tag) (a .depth) (i .if1 .taken))
     (λ c κs. tt)
     (λ c κs. tt)
-    (λ c. let a = c .before .before .before .before .before .args in c .once2 .ensures ∙ ap onceCounted (c .before .number-to .ensures) ∙ entry-three (a .s .now) (a .at) (a .next) (a .tag) (a .depth) (c .before .before .if2 .taken))
+    (λ c.
+    let i = c .before .before in
+    let a = i .before .before .before .args in
+    c .once2 .ensures ∙ ap onceCounted (c .before .number-to .ensures) ∙ entry-three (a .s .now) (a .at) (a .next) (a .tag) (a .depth) (i .if2 .taken))
     (λ c κs. tt)
     (λ c. search needs)
     (λ c. search needs)
-    (λ c. let a = c .before .before .before .before .before .before .before .before .args in let e = c .enum-told .given .1 in e ∙ entry-bad (a .s .now) (a .at) (a .next) (a .tag) (a .depth) _ (c .before .before .before .before .if3 .taken) (c .before .before .before .if4 .taken) (sym e ∙ c .before .before .number-to2 .ensures))
-    (λ c. let a = c .before .before .before .before .before .before .before .before .before .before .args in entry-zero (a .s .now) (a .at) (a .next) (a .tag) (a .depth) _ _ (c .before .before .before .before .before .before .if3 .taken) (c .before .before .before .before .before .if4 .taken) (sym (c .before .before .count .given .1) ∙ c .before .before .before .before .number-to2 .ensures) (c .if5 .taken))
+    (λ c.
+    let n = c .before .before in
+    let a = n .before .before .before .before .before .before .args in
+    let e = c .enum-told .given .1 in
+    e ∙ entry-bad (a .s .now) (a .at) (a .next) (a .tag) (a .depth) _ (n .before .before .if3 .taken) (n .before .if4 .taken) (sym e ∙ n .number-to2 .ensures))
+    (λ c.
+    let k = c .before .before in
+    let n = k .before .before in
+    let a = n .before .before .before .before .before .before .args in
+    let e = sym (k .count .given .1) ∙ n .number-to2 .ensures in
+    entry-zero (a .s .now) (a .at) (a .next) (a .tag) (a .depth) _ _ (n .before .before .if3 .taken) (n .before .if4 .taken) e (c .if5 .taken))
     (λ c. omega arith)
-    (λ c κs. let a = c .before .before .before .before .before .before .before .before .before .before .args in let h = count-falls (a .s .now) (a .at) (a .next) (a .tag) (a .depth) _ _ (sym (c .before .before .count .given .1) ∙ c .before .before .before .before .number-to2 .ensures) in (omega arith, tt))
+    (λ c κs.
+    let k = c .before .before in
+    let n = k .before .before in
+    let a = n .before .before .before .before .before .before .args in
+    let e = sym (k .count .given .1) ∙ n .number-to2 .ensures in
+    let h = count-falls (a .s .now) (a .at) (a .next) (a .tag) (a .depth) _ _ e in
+    (omega arith, tt))
     (λ c κs. tt)
-    (λ c. let a = c .before .before .before .before .before .before .before .before .before .before .before .before .args in c .times .ensures ∙ ap (timesOf _) (c .before .block .ensures) ∙ entry-times (a .s .now) (a .at) (a .next) (a .tag) (a .depth) _ _ (c .before .before .before .before .before .before .before .before .if3 .taken) (c .before .before .before .before .before .before .before .if4 .taken) (sym (c .before .before .before .before .count .given .1) ∙ c .before .before .before .before .before .before .number-to2 .ensures) (c .before .before .if5 .left))
+    (λ c.
+    let k = c .before .before .before .before in
+    let n = k .before .before in
+    let a = n .before .before .before .before .before .before .args in
+    let e = sym (k .count .given .1) ∙ n .number-to2 .ensures in
+    c .times .ensures ∙ ap (timesOf _) (c .before .block .ensures) ∙ entry-times (a .s .now) (a .at) (a .next) (a .tag) (a .depth) _ _ (n .before .before .if3 .taken) (n .before .if4 .taken) e (c .before .before .if5 .left))
     (λ c. let a = c .before .before .before .before .before .args in entry-deep (a .s .now) (a .at) (a .next) (a .tag) (a .depth) (c .before .if3 .taken) (c .if4 .left))
     (λ c. let a = c .before .before .before .before .args in entry-none (a .s .now) (a .at) (a .next) (a .tag) (a .depth) (c .before .before .if1 .left) (c .before .if2 .left) (c .if3 .left)))

@@ -23,9 +23,36 @@ stated-at-spec =
     (λ c κs. tt)
     (λ c κs. tt)
     (λ c κs. tt)
-    (λ c. let h : c .before .before .before .before .before .value-of .result ≤ 255 = rw (c .before .before .before .before .before .value-of .ensures, c .before .before .before .before .before .before .before .before .before .before .number-to .ensures) (number-to-small _ 255 _) in omega arith)
-    (λ c. let h : c .before .before .before .before .value-of2 .result ≤ 255 = rw (c .before .before .before .before .value-of2 .ensures, c .before .before .before .before .before .before .before .before .before .then-number .ensures) (then-small _ 255 _) in omega arith)
-    (λ c. let h : c .before .before .before .value-of3 .result ≤ 255 = rw (c .before .before .before .value-of3 .ensures, c .before .before .before .before .before .before .before .before .then-number2 .ensures) (then-small _ 255 _) in omega arith)
+    (λ c.
+    let v = c .before .before .before .before .before in
+    let h : v .value-of .result ≤ 255 = rw (v .value-of .ensures, v .before .before .before .before .before .number-to .ensures) (number-to-small _ 255 _) in
+    omega arith)
+    (λ c.
+    let v = c .before .before .before .before in
+    let h : v .value-of2 .result ≤ 255 = rw (v .value-of2 .ensures, v .before .before .before .before .before .then-number .ensures) (then-small _ 255 _) in
+    omega arith)
+    (λ c.
+    let v = c .before .before .before in
+    let h : v .value-of3 .result ≤ 255 = rw (v .value-of3 .ensures, v .before .before .before .before .before .then-number2 .ensures) (then-small _ 255 _) in
+    omega arith)
     (λ c κs. tt)
     (λ c κs. tt)
-    (λ c. rw (c .then-numbers .ensures, c .before .carries .ensures, c .before .before .next-of .ensures, c .before .before .before .value-of5 .ensures, c .before .before .before .before .value-of4 .ensures, c .before .before .before .before .before .value-of3 .ensures, c .before .before .before .before .before .before .value-of2 .ensures, c .before .before .before .before .before .before .before .value-of .ensures, c .before .before .before .before .before .before .before .before .then-number4 .ensures, c .before .before .before .before .before .before .before .before .before .then-number3 .ensures, c .before .before .before .before .before .before .before .before .before .before .then-number2 .ensures, c .before .before .before .before .before .before .before .before .before .before .before .then-number .ensures, c .before .before .before .before .before .before .before .before .before .before .before .before .number-to .ensures) refl))
+    (λ c.
+    let x = c .before .before in
+    let v = x .before .before .before .before .before in
+    let n = v .before .before .before .before .before in
+    rw (
+      c .then-numbers .ensures,
+      c .before .carries .ensures,
+      x .next-of .ensures,
+      x .before .value-of5 .ensures,
+      x .before .before .value-of4 .ensures,
+      x .before .before .before .value-of3 .ensures,
+      x .before .before .before .before .value-of2 .ensures,
+      v .value-of .ensures,
+      v .before .then-number4 .ensures,
+      v .before .before .then-number3 .ensures,
+      v .before .before .before .then-number2 .ensures,
+      v .before .before .before .before .then-number .ensures,
+      n .number-to .ensures,
+    ) refl))

@@ -1,5 +1,5 @@
--- Assumes nothing.
-use mathlib.Core.Path.{_≡_, refl, ap, sym, _∙_}
+-- `sheets::times` meets its contract. Assumes nothing.
+use mathlib.Core.Path.{refl}
 use borrow.Author.Needs.{needs}
 use Rattle.sheets.proofs.Counting.{product}
 use Rattle.sheets.proofs.times.Statement.{statement}
