@@ -9,6 +9,7 @@ mod bench;
 mod calls;
 mod compare;
 mod deciders;
+mod environment;
 mod generator;
 mod layout;
 mod pages;
@@ -23,6 +24,7 @@ mod table;
 mod watch;
 
 use bench::unaltered;
+use environment::number;
 use std::io::Write;
 use std::time::Instant;
 
@@ -33,18 +35,6 @@ const SHUFFLES: u64 = 8_000;
 const SHUFFLES_OF_TWO_WRITERS: u64 = 1_000;
 /// Shuffles that must have been tried with the premise holding only because a denied read stops early.
 const SHUFFLES_APART_BY_A_CUT: u64 = 50;
-
-/// A number from the environment, decimal or with 0x.
-fn number(variable: &str, otherwise: u64) -> u64 {
-    let Ok(text) = std::env::var(variable) else {
-        return otherwise;
-    };
-    let number = match text.strip_prefix("0x") {
-        Some(digits) => u64::from_str_radix(digits, 16),
-        None => text.parse(),
-    };
-    number.unwrap_or_else(|_| panic!("{variable} is no number: {text}"))
-}
 
 /// Past the test harness, which would keep it to itself.
 fn print(text: &str) {

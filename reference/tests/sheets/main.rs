@@ -6,6 +6,7 @@
 
 mod damage;
 mod draft;
+#[path = "../differential/environment.rs"]
 mod environment;
 mod generator;
 #[path = "../differential/panics.rs"]

@@ -1,0 +1,5 @@
+-- Proofs of specs/.
+
+pub mod Lengths
+pub mod SheetCallsProof
+pub mod Instances

@@ -1,0 +1,3 @@
+-- A bench sheet is its calls.
+
+pub mod SheetCalls
