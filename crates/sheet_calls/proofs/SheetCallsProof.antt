@@ -5,10 +5,7 @@ use mathlib.Core.Bool.{true}
 use mathlib.Core.List.{List, [], _∷_, _++_, map, append-nil, append-assoc}
 use lib.ListN.{length}
 use lib.Seq.{sets}
-use Rattle.model.specs.Places.{totalWords}
-use Rattle.model.specs.Queue.{held}
-use Rattle.model.specs.Rights.{dataRuling}
-use Rattle.model.specs.Valid.{settingsFit, workFits, runningFits, physicalFits, valid, validWith}
+use Rattle.model.specs.Valid.{settingsFit, runningFits, physicalFits, valid, validWith}
 use Rattle.model.specs.State.{flashFits}
 use Rattle.model.specs.Lifecycle.{reset, initialiseAnswer, initialise}
 use Rattle.promises.specs.Calls.{State, Call, Shaped, perform, run, replies}
@@ -17,7 +14,7 @@ use Rattle.registers.specs.Layout.{registerCount}
 use Rattle.registers.specs.Registers.{regionsOf, infoOf, progressAt, standsFor, encoded, decode, putFromPhysical, putFromErrors, putFromPrograms}
 use Rattle.registers.specs.Registers.{putFromReads, putFromProgress, putFromErase, putFromInfo, putFromRegions, putFromInputs, put, zeroed, cleared}
 use Rattle.registers.proofs.Stored.{Long}
-use Rattle.calls.specs.Calls.{setDefaultIn, resetIn, initialiseIn, wholeIn}
+use Rattle.calls.specs.Calls.{resetIn, initialiseIn, wholeIn}
 use Rattle.refinement.proofs.RefinementProof.{refines}
 use Rattle.sheets.specs.declared.Request.{Request}
 use Rattle.sheets.specs.declared.Request.the-variants.{Whole, Rights}
@@ -40,7 +37,7 @@ record EntryIsCall (sheet : List ℕ) (b : Bench) (q : Request) : Type 0 where
   long : Long (requested sheet b q .registers)
 
 entry-is-call : (sheet : List ℕ) (b : Bench) (q : Request) → Long (b .registers) → EntryIsCall sheet b q
-unfolding requested perform setDefaultIn wholeIn
+unfolding requested perform wholeIn
 entry-is-call sheet b (Rights r) l = record {
   leaves = rw (refines (b .registers) (l .size) .default r);
   prints = sym (append-nil (b .printed));
@@ -99,7 +96,7 @@ record BenchFits : Type 0 where
   fits : valid (decode benchRegisters) ≡ true
 
 bench-fits : BenchFits
-unfolding dataRuling settingsFit workFits runningFits physicalFits valid validWith flashFits reset initialiseAnswer initialise held totalWords regionsOf infoOf progressAt standsFor encoded decode putFromPhysical putFromErrors putFromPrograms putFromReads putFromProgress putFromErase putFromInfo putFromRegions putFromInputs put zeroed cleared resetIn initialiseIn benchRegisters
+unfolding settingsFit runningFits physicalFits valid validWith flashFits reset initialiseAnswer initialise regionsOf infoOf progressAt standsFor encoded decode putFromPhysical putFromErrors putFromPrograms putFromReads putFromProgress putFromErase putFromInfo putFromRegions putFromInputs put zeroed cleared resetIn initialiseIn benchRegisters
 bench-fits = record {
   size = refl;
   shape = record { regions = refl; info = refl; erase = refl; reads = refl; programs = refl; lost = refl };
