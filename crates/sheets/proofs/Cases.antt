@@ -10,7 +10,8 @@ use Rattle.sheets.specs.Sheet.{kindAt, partitionAt, typeAt, addressAt, c
 
 -- Nothing; an empty block, and a byte after one; a tag that does not end, and one in a longer form; rights that do not end; tags that
 -- are none; kind 256; a word in a longer form; an address of 2^32; repeats of 0 and 256; rights 8; a block that does not end; eight
--- repeats, and a ninth; 255 repeats eight deep of nothing; an expansion that is too large, alone and before a byte more; 02's example.
+-- repeats, and a ninth; 255 repeats eight deep of nothing; an expansion that is too large, alone and before a byte more; 4,096
+-- and 4,097 entries; 02's example.
 pub verdicts : map verdictOf (
     ([])
     ∷ (0 ∷ [])
@@ -32,10 +33,12 @@ pub verdicts : map verdictOf (
     ∷ (2 ∷ 255 ∷ 1 ∷ 2 ∷ 255 ∷ 1 ∷ 2 ∷ 255 ∷ 1 ∷ 2 ∷ 255 ∷ 1 ∷ 2 ∷ 255 ∷ 1 ∷ 2 ∷ 255 ∷ 1 ∷ 2 ∷ 255 ∷ 1 ∷ 2 ∷ 255 ∷ 1 ∷ 0 ∷ 0 ∷ 0 ∷ 0 ∷ 0 ∷ 0 ∷ 0 ∷ 0 ∷ 0 ∷ [])
     ∷ (2 ∷ 255 ∷ 1 ∷ 2 ∷ 255 ∷ 1 ∷ 3 ∷ 7 ∷ 0 ∷ 0 ∷ 0 ∷ [])
     ∷ (2 ∷ 255 ∷ 1 ∷ 2 ∷ 255 ∷ 1 ∷ 3 ∷ 7 ∷ 0 ∷ 0 ∷ 0 ∷ 9 ∷ [])
+    ∷ (2 ∷ 128 ∷ 1 ∷ 2 ∷ 32 ∷ 3 ∷ 7 ∷ 0 ∷ 0 ∷ 0 ∷ [])
+    ∷ (2 ∷ 17 ∷ 2 ∷ 241 ∷ 1 ∷ 3 ∷ 7 ∷ 0 ∷ 0 ∷ 0 ∷ [])
     ∷ (2 ∷ 3 ∷ 1 ∷ 0 ∷ 0 ∷ 0 ∷ 0 ∷ 1 ∷ 0 ∷ 0 ∷ [])
     ∷ [])
     ≡ Refused 0 ∷ Good 0 ∷ Refused 1 ∷ Refused 1 ∷ Refused 0 ∷ Refused 7 ∷ Refused 0 ∷ Refused 0 ∷ Refused 1
-    ∷ Refused 6 ∷ Refused 4 ∷ Refused 1 ∷ Refused 1 ∷ Refused 1 ∷ Refused 3 ∷ Good 1 ∷ Refused 16 ∷ Good 0 ∷ Refused 0 ∷ Refused 11 ∷ Good 3 ∷ []
+    ∷ Refused 6 ∷ Refused 4 ∷ Refused 1 ∷ Refused 1 ∷ Refused 1 ∷ Refused 3 ∷ Good 1 ∷ Refused 16 ∷ Good 0 ∷ Refused 0 ∷ Refused 11 ∷ Good 4096 ∷ Refused 0 ∷ Good 3 ∷ []
 unfolding verdictOf blockAt blockWith entryWith statedAt operationAt kindAt partitionAt typeAt addressAt countAt carried continued lastGroup groupsValue shortest numberBetween numberAt limited numberTo thenNumber thenNumbers
 verdicts = refl
 
