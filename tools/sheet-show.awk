@@ -1,7 +1,12 @@
 # From a bench sheet's bytes, in decimal, to its text (docs/SHEETS.md), an entry a line.
 # Status 1 if not all of them can be shown: then the last line says where it stopped, and why.
 
+# What is too long is so wherever else it is wrong.
 function stop(at, why) {
+    if (size > longest) {
+        at = longest
+        why = "a sheet has at most " longest " bytes"
+    }
     print "# byte " at ": " why
     exit 1
 }
@@ -12,7 +17,7 @@ function number(    at, value, weight, group) {
     weight = 1
     do {
         if (place == size) stop(size, "the sheet ends before its block does")
-        if (place == longest) stop(longest, "a sheet has at most " longest " bytes")
+        if (place == longest) stop()
         group = byte[place++]
         if (group % 128 > 0) value += group % 128 * weight
         weight *= 128

@@ -79,8 +79,8 @@ module _ (s : List ℕ) (at next tag d n : ℕ) (room : Room (entryAt s at next 
   pub entry-onward : next ≤ endOf (entryAt s at next tag d)
   entry-onward = onward (entryAt s at next tag d) (entry-forward s at next tag d) room
     where
-      onward : (m : Meaning) → Fwd next m → Room m n → next ≤ endOf m
-      onward (Runs ps x) f r = f
+      onward : (m : Meaning) → Fwd s next m → Room m n → next ≤ endOf m
+      onward (Runs ps x) f r = omega arith
       onward (Fault p) f r = no-room r
 
   -- An entry that runs once is one of these.

@@ -55,7 +55,7 @@ unfoldable pub thenNumber : List ℕ → ℕ → Parsed → Parsed
 thenNumber s max (Number v n) = numberTo s max n
 thenNumber s max (Bad p) = Bad p
 
--- k numbers more, of any value: the last of them.
+-- k numbers more, of any value: the last of them, or what stood before if k is 0.
 unfoldable pub thenNumbers : List ℕ → ℕ → Parsed → Parsed
 thenNumbers s zero r = r
 thenNumbers s (suc k) r = thenNumbers s k (thenNumber s largest r)

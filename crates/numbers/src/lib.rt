@@ -13,6 +13,8 @@ pub enum Parsed {
 // The largest number, for where any may stand.
 pub const LARGEST: u32 = 0xFFFF_FFFF;
 
+const WIDE_LARGEST: u64 = LARGEST as u64;
+
 fn wide(b: u8) -> u64
     ensures { λ r. ⌜ r ≡ b ⌝ }
 {
@@ -58,7 +60,7 @@ pub fn number(s: &[u8], at: usize) -> Parsed
     }
     let value = groups_value(s, at, end - at + 1);
     let shortest = (end <= at) | (0 < s[end]);
-    let fits = value <= 0xFFFF_FFFF;
+    let fits = value <= WIDE_LARGEST;
     if shortest & fits {
         Parsed::Number {
             value: value as u32,
@@ -96,7 +98,7 @@ pub fn then_number(s: &[u8], prior: Parsed, max: u32) -> Parsed
     }
 }
 
-// After what stood before, `k` numbers more: the last of them.
+// After what stood before, `k` numbers more: the last of them, or what stood before if `k` is 0.
 pub fn then_numbers(s: &[u8], prior: Parsed, k: u32) -> Parsed
     ensures { λ r. ⌜ r ≡ thenNumbers (now (s .entry)) k prior ⌝ }
 {

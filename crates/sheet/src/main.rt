@@ -6,7 +6,7 @@ use sheet_run::Row;
 use sheets::Verdict;
 
 // One byte more than a sheet may have: a longer one is too long, whatever follows.
-const INPUT_BYTES: usize = 4097;
+const INPUT_BYTES: usize = sheets::MAX_BYTES + 1;
 
 fn text(words: &[u8]) {
     io::write_all(STDOUT_FILENO, words);

@@ -30,7 +30,7 @@ pub begins : (decode benchRegisters .phase ≡ Ready) × (decode benchRegisters 
 unfolding dataRuling settingsFit workFits runningFits physicalFits valid validWith flashFits reset initialiseAnswer initialise held totalWords regionsOf infoOf progressAt standsFor encoded decode putFromPhysical putFromErrors putFromPrograms putFromReads putFromProgress putFromErase putFromInfo putFromRegions putFromInputs put zeroed cleared resetIn initialiseIn benchRegisters
 begins = (refl, refl, refl, refl)
 
--- 02's ten bytes: three lines of 9 and 0, at the front of any row.
+-- 02's ten bytes: three lines of 9 and 0, at the front of a row.
 pub three-reads : benchRun (2 ∷ 3 ∷ 1 ∷ 0 ∷ 0 ∷ 0 ∷ 0 ∷ 1 ∷ 0 ∷ 0 ∷ []) (1 ∷ 2 ∷ 3 ∷ 4 ∷ 5 ∷ 6 ∷ 7 ∷ [])
     ≡ record { told = record { verdict = Good 3; numbers = 6 }; row = 9 ∷ 0 ∷ 9 ∷ 0 ∷ 9 ∷ 0 ∷ 7 ∷ [] }
 unfolding imagePage wordAt programmed differIn changedBits totalWords placeOf held queueOf pushed oldest popped dataRuling seedClosed infoRuling rulingAt rulingOfPage leading allowedWords denied deciderOf readableWords malformed outOfRange crossesWindow operationAnswer settingsFit workFits runningFits physicalFits valid validWith recorded errorAddress flashFits configured setDefault reset initialiseAnswer initialise startAnswer start pushAnswer push popAnswer pop stalls delivered readWord countedBits advance stepProgress step turn turns wholeAnswer drive whole regionsOf infoOf progressAt standsFor encoded decode putFromPhysical putFromErrors putFromPrograms putFromReads putFromProgress putFromErase putFromInfo putFromRegions putFromInputs put zeroed cleared setDefaultIn resetIn initialiseIn wholeIn continued lastGroup groupsValue shortest numberBetween numberAt limited numberTo thenNumber thenNumbers kindAt partitionAt typeAt addressAt countAt operationAt carried statedAt entryWith blockWith blockAt verdictOf expanded requestAt wordsFrom loaded requested performed performedAll run benchRegisters benchRun

@@ -4,6 +4,7 @@ use mathlib.Core.Bool.{cond}
 use mathlib.Core.List.{List, [], _∷_, _++_}
 use lib.ListN.{length, replicate}
 use lib.Seq.{sets}
+use Rattle.model.specs.Geometry.{imageWords}
 use Rattle.model.specs.Words.{allOnes}
 use Rattle.model.specs.State.{Flash, flash}
 use Rattle.registers.specs.Layout.{registerCount}
@@ -68,7 +69,7 @@ run s f sheet row =
 
 -- The program starts from ready, D = 16, all-ones flash, both inputs off: reset, then initialise.
 abbrev pub benchFlash : Flash
-benchFlash = flash (replicate 14848 allOnes)
+benchFlash = flash (replicate (imageWords 16) allOnes)
 
 unfoldable pub benchRegisters : List ℕ
 benchRegisters = initialiseIn (resetIn (replicate registerCount 0) 16 .registers) benchFlash .registers

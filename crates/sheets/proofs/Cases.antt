@@ -8,8 +8,8 @@ use Rattle.sheets.specs.declared.Request.the-variants.{Whole, Rights}
 use Rattle.sheets.specs.declared.Verdict.the-variants.{Good, Refused}
 use Rattle.sheets.specs.Sheet.{kindAt, partitionAt, typeAt, addressAt, countAt, operationAt, carried, statedAt, entryWith, blockWith, blockAt, verdictOf, expanded, requestAt, wordsFrom, loaded}
 
--- Nothing; an empty block, and a byte after one; a tag that does not end, and one in a longer form; rights that do not end; tags that
--- are none; kind 256; a word in a longer form; an address of 2^32; repeats of 0 and 256; rights 8; a block that does not end; eight
+-- Nothing; an empty block, and a byte after one; a tag that does not end, and one in a longer form; rights that do not end; a tag that
+-- is none, and 1 in a longer form; kind 256; a word in a longer form; an address of 2^32; repeats of 0 and 256; rights 8; a block that does not end; eight
 -- repeats, and a ninth; 255 repeats eight deep of nothing; an expansion that is too large, alone and before a byte more; 4,096
 -- and 4,097 entries; 02's example.
 pub verdicts : map verdictOf (
@@ -42,7 +42,7 @@ pub verdicts : map verdictOf (
 unfolding verdictOf blockAt blockWith entryWith statedAt operationAt kindAt partitionAt typeAt addressAt countAt carried continued lastGroup groupsValue shortest numberBetween numberAt limited numberTo thenNumber thenNumbers
 verdicts = refl
 
--- 4,097 bytes, whatever they hold.
+-- 4,097 zeros.
 pub too-long : verdictOf (replicate 4097 0) ≡ Refused 4096
 unfolding verdictOf
 too-long = refl

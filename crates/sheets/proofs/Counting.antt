@@ -136,7 +136,7 @@ module _ (s : List ℕ) (at next tag d : ℕ) where
   pub entry-past : (a x : ℕ) → Number a x ≡ counted (entryAt s at next tag d) → next ≤ x
   entry-past a x e = past (entryAt s at next tag d) a x e (entry-forward s at next tag d)
     where
-      past : (m : Meaning) (a x : ℕ) → Number a x ≡ counted m → Fwd next m → next ≤ x
+      past : (m : Meaning) (a x : ℕ) → Number a x ≡ counted m → Fwd s next m → next ≤ x
       past (Runs ps n) a x e f = let v : x ≡ n = cc in omega arith
       past (Fault p) a x e f = let z : _≡_ {A = ℕ} 0 1 = cc in omega arith
 

@@ -25,32 +25,33 @@ stated-goes s at =
     (then-goes s at 255 (partitionAt s at)
     (then-goes s at 255 (kindAt s at) (number-to-goes s 255 at)))))
 
--- what was reached is not before a
-abbrev pub Fwd : ℕ → Meaning → Type 0
-Fwd a (Runs ps n) = a ≤ n
-Fwd a (Fault p) = Unit
+-- What is read from place a on ends past it, within the sheet.
+abbrev pub Fwd : List ℕ → ℕ → Meaning → Type 0
+Fwd s a (Runs ps n) = (a < n) × (n ≤ length s)
+Fwd s a (Fault p) = Unit
 
-once-fwd : (s : List ℕ) (at next : ℕ) (r : Parsed) → Goes s next r → Fwd next (once at r)
-once-fwd s at next (Number v n) g = omega arith
+once-fwd : (s : List ℕ) (at next : ℕ) (r : Parsed) → Goes s next r → Fwd s next (once at r)
+once-fwd s at next (Number v n) g = g
 once-fwd s at next (Bad p) g = tt
 
-repeated-fwd : (a b k : ℕ) (m : Meaning) → a ≤ b → Fwd b m → Fwd a (repeated k m)
-repeated-fwd a b k (Runs ps n) h f = omega arith
-repeated-fwd a b k (Fault p) h f = tt
+repeated-fwd : (s : List ℕ) (a b k : ℕ) (m : Meaning) → a ≤ b → Fwd s b m → Fwd s a (repeated k m)
+repeated-fwd s a b k (Runs ps n) h f = (omega arith, f .1)
+repeated-fwd s a b k (Fault p) h f = tt
 
-after-fwd : (s : List ℕ) (at : ℕ) (r : Parsed) (f : ℕ → ℕ → Meaning) → Goes s at r → ((v n : ℕ) → at < n → Fwd at (f v n)) → Fwd at (after r f)
-after-fwd s at (Number v n) f g h = h v n (g .0)
+after-fwd : (s : List ℕ) (at : ℕ) (r : Parsed) (f : ℕ → ℕ → Meaning) → Goes s at r
+    → ((v n : ℕ) → at < n → n ≤ length s → Fwd s at (f v n)) → Fwd s at (after r f)
+after-fwd s at (Number v n) f g h = h v n (g .0) (g .1)
 after-fwd s at (Bad p) f g h = tt
 
-followed-fwd : (a b : ℕ) (m : Meaning) (f : ℕ → Meaning) → a ≤ b → Fwd b m → ((n : ℕ) → Fwd n (f n)) → Fwd a (followed m f)
-followed-fwd a b (Runs ps n) f h g k = later a n ps (f n) (omega arith) (k n)
+followed-fwd : (s : List ℕ) (a b : ℕ) (m : Meaning) (f : ℕ → Meaning) → a ≤ b → Fwd s b m → ((n : ℕ) → Fwd s n (f n)) → Fwd s a (followed m f)
+followed-fwd s a b (Runs ps n) f h g k = later (f n) (k n)
   where
-    later : (a n : ℕ) (ps : List ℕ) (m : Meaning) → a ≤ n → Fwd n m → Fwd a (before ps m)
-    later a n ps (Runs qs x) h k = omega arith
-    later a n ps (Fault p) h k = tt
-followed-fwd a b (Fault p) f h g k = tt
+    later : (m : Meaning) → Fwd s n m → Fwd s a (before ps m)
+    later (Runs qs x) w = (omega arith, w .1)
+    later (Fault p) w = tt
+followed-fwd s a b (Fault p) f h g k = tt
 
-pub entry-fwd : (s : List ℕ) (f : ℕ → Meaning) (at next tag d : ℕ) → ((n : ℕ) → Fwd n (f n)) → Fwd next (entryWith s f at next tag d)
+entry-fwd : (s : List ℕ) (f : ℕ → Meaning) (at next tag d : ℕ) → ((n : ℕ) → Fwd s n (f n)) → Fwd s next (entryWith s f at next tag d)
 unfolding entryWith
 entry-fwd s f at next tag d g =
     ⊎-elim (λ e. rw e (once-fwd s at next (statedAt s next .end) (stated-goes s next)))
@@ -59,35 +60,38 @@ entry-fwd s f at next tag d g =
     (λ e. rw e
     (⊎-elim (λ e. rw e
     (after-fwd s next (numberTo s 255 next) (λ k n. cond (eqb k 0) (Fault next) (repeated k (f n))) (number-to-goes s 255 next)
-    (λ k n h. ⊎-elim (λ e. rw e tt) (λ e. rw e (repeated-fwd next n k (f n) (omega arith) (g n))) (which (eqb k 0)))))
+    (λ k n h i. ⊎-elim (λ e. rw e tt) (λ e. rw e (repeated-fwd s next n k (f n) (omega arith) (g n))) (which (eqb k 0)))))
     (λ e. rw e tt)
     (which (eqb tag 2 && ltb d 8))))
     (which (eqb tag 3))))
     (which (eqb tag 1))
 
-pub block-fwd : (k : ℕ) (s : List ℕ) (at d : ℕ) → Fwd at (blockWith k s at d)
+block-fwd : (k : ℕ) (s : List ℕ) (at d : ℕ) → Fwd s at (blockWith k s at d)
 unfolding blockWith
 block-fwd zero s at d = tt
 block-fwd (suc k) s at d =
     after-fwd s at (numberAt s at) _ (number-goes s at)
-    (λ v n h. ⊎-elim (λ e. rw e (omega arith))
-    (λ e. rw e (followed-fwd at n (entryWith s (λ m. blockWith k s m (d + 1)) at n v d) (λ m. blockWith k s m d) (omega arith)
+    (λ v n h i. ⊎-elim (λ e. rw e (h, i))
+    (λ e. rw e (followed-fwd s at n (entryWith s (λ m. blockWith k s m (d + 1)) at n v d) (λ m. blockWith k s m d) (omega arith)
     (entry-fwd s (λ m. blockWith k s m (d + 1)) at n v d (λ m. block-fwd k s m (d + 1))) (λ m. block-fwd k s m d)))
     (which (eqb v 0)))
 
-pub entry-forward : (s : List ℕ) (at next tag d : ℕ) → Fwd next (entryAt s at next tag d)
-unfolding entryAt blockAt
-entry-forward s at next tag d =
-    entry-fwd s (λ n. blockAt s n (d + 1)) at next tag d (λ n. block-fwd (suc (length s)) s n (d + 1))
+pub block-forward : (s : List ℕ) (at d : ℕ) → Fwd s at (blockAt s at d)
+unfolding blockAt
+block-forward s at d = block-fwd (suc (length s)) s at d
+
+pub entry-forward : (s : List ℕ) (at next tag d : ℕ) → Fwd s next (entryAt s at next tag d)
+unfolding entryAt
+entry-forward s at next tag d = entry-fwd s (λ n. blockAt s n (d + 1)) at next tag d (λ n. block-forward s n (d + 1))
 
 -- what comes next is asked only at a place that was reached
 after-ext : (s : List ℕ) (at : ℕ) (r : Parsed) (f g : ℕ → ℕ → Meaning) → Goes s at r → ((v n : ℕ) → at < n → f v n ≡ g v n) → after r f ≡ after r g
 after-ext s at (Number v n) f g w h = h v n (w .0)
 after-ext s at (Bad p) f g w h = refl
 
-followed-ext : (a : ℕ) (m : Meaning) (f g : ℕ → Meaning) → Fwd a m → ((n : ℕ) → a ≤ n → f n ≡ g n) → followed m f ≡ followed m g
-followed-ext a (Runs ps n) f g w h = ap (before ps) (h n w)
-followed-ext a (Fault p) f g w h = refl
+followed-ext : (s : List ℕ) (a : ℕ) (m : Meaning) (f g : ℕ → Meaning) → Fwd s a m → ((n : ℕ) → a ≤ n → f n ≡ g n) → followed m f ≡ followed m g
+followed-ext s a (Runs ps n) f g w h = ap (before ps) (h n (omega arith))
+followed-ext s a (Fault p) f g w h = refl
 
 entry-ext : (s : List ℕ) (f g : ℕ → Meaning) (at next tag d : ℕ) → ((n : ℕ) → next ≤ n → f n ≡ g n) → entryWith s f at next tag d ≡ entryWith s g at next tag d
 unfolding entryWith
@@ -102,7 +106,7 @@ unfolding blockWith
 step-ext s at d k j h =
     after-ext s at (numberAt s at) _ _ (number-goes s at)
     (λ v n w. ap (cond (eqb v 0) (Runs [] n))
-    (followed-ext n (entryWith s (λ m. blockWith k s m (d + 1)) at n v d) (λ m. blockWith k s m d) (λ m. blockWith j s m d)
+    (followed-ext s n (entryWith s (λ m. blockWith k s m (d + 1)) at n v d) (λ m. blockWith k s m d) (λ m. blockWith j s m d)
     (entry-fwd s (λ m. blockWith k s m (d + 1)) at n v d (λ m. block-fwd k s m (d + 1)))
     (λ m u. h m d (omega arith))
     ∙ ap (λ (x : Meaning). followed x (λ m. blockWith j s m d))

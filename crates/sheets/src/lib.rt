@@ -18,7 +18,7 @@ pub const WIDE_MAX_ENTRIES: usize = MAX_ENTRIES as usize;
 const MAX_DEPTH: u8 = 8;
 
 // What a block counts that runs more entries than that.
-const TOO_MANY: u32 = 4097;
+const TOO_MANY: u32 = MAX_ENTRIES + 1;
 
 // A program of more words carries none.
 const MAX_CARRIED: u32 = 16;
