@@ -4,7 +4,7 @@ use native.Mathlib.Omega.{arith}
 use native.Mathlib.Nat.{mul-le-mul-right}
 use native.Mathlib.Numerals.{add-one}
 use mathlib.Core.Path.{_≡_, refl, ap, sym, _∙_}
-use mathlib.Core.Bool.{true, false, _&&_}
+use mathlib.Core.Bool.{Bool, true, false, _&&_}
 use mathlib.Core.List.{List, [], _∷_, _++_, append-nil, append-assoc}
 use lib.ListN.{length, length-append}
 use lib.Seq.{sets}
@@ -37,8 +37,8 @@ copies-first zero ps h = absurd (omega arith)
 copies-first (suc k) ps h = let e : suc k - 1 ≡ k = omega arith in rw e refl
 
 -- While turns go on, one is left.
-pub goes-on : (turn k n count : ℕ) → (ltb turn k && ltb n count) ≡ true → turn < k
-goes-on turn k n count e = ltb-true turn k (and-left (ltb turn k) (ltb n count) e)
+pub goes-on : (turn k : ℕ) (t : Bool) → (ltb turn k && t) ≡ true → turn < k
+goes-on turn k t e = ltb-true turn k (and-left (ltb turn k) t e)
 
 -- The first of k turns more of a block are laid from place n on.
 pub record Turning (m : Meaning) (k n : ℕ) (places₀ : List ℕ) (turn : ℕ) (places : List ℕ) (count : ℕ) : Type 0 where

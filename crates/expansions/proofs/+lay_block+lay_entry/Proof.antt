@@ -130,7 +130,7 @@ pub +lay-block+lay-entry-spec : {M : Type 1} → statement M
     let two = e .before .if1 .taken in
     let v = x .before .value-of .ensures ∙ ap valueOf (e .number-to .ensures) in
     let y = x .next-of .ensures ∙ ap nextOf (e .number-to .ensures) in
-    count-some (a .s .now) (a .at) (a .next) (a .tag) (a .depth) (a .n) (o .pre .1) two _ _ v y)
+    omega (arith, count-some (a .s .now) (a .at) (a .next) (a .tag) (a .depth) (a .n) (o .pre .1) two _ _ v y))
     (λ c.
     let x = c .before .before in
     let e = x .before .before in
@@ -158,7 +158,7 @@ pub +lay-block+lay-entry-spec : {M : Type 1} → statement M
     let v = x .before .value-of .ensures ∙ ap valueOf (e .number-to .ensures) in
     let y = x .next-of .ensures ∙ ap nextOf (e .number-to .ensures) in
     let h = count-falls (a .s .now) (a .at) (a .next) (a .tag) (a .depth) (a .n) (o .pre .1) two _ _ v y in
-    (omega arith, turning-room (c .before .before .loop .inv) (goes-on _ _ (a .n) (c .before .before .loop .count) (c .before .loop-test .taken))))
+    (omega arith, turning-room (c .before .before .loop .inv) (goes-on _ _ _ (c .before .loop-test .taken))))
     (λ c.
     let x = c .before .before .before .before .before .before in
     let e = x .before .before in
@@ -169,7 +169,7 @@ pub +lay-block+lay-entry-spec : {M : Type 1} → statement M
     let y = x .next-of .ensures ∙ ap nextOf (e .number-to .ensures) in
     let l = c .before .before .before .loop in
     let h = count-small (a .s .now) (a .at) (a .next) (a .tag) (a .depth) (a .n) (o .pre .1) two _ _ v y in
-    omega (arith, h, goes-on (l .again) (x .before .value-of .result - 1) (a .n) (l .count) (c .before .before .loop-test .taken)))
+    omega (arith, h, goes-on (l .again) (x .before .value-of .result - 1) _ (c .before .before .loop-test .taken)))
     (λ c.
     let x = c .before .before .before .before .before .before in
     let e = x .before .before in
@@ -179,12 +179,11 @@ pub +lay-block+lay-entry-spec : {M : Type 1} → statement M
     let v = x .before .value-of .ensures ∙ ap valueOf (e .number-to .ensures) in
     let y = x .next-of .ensures ∙ ap nextOf (e .number-to .ensures) in
     let l = c .before .before .before .loop in
-    let h = goes-on (l .again) (x .before .value-of .result - 1) (a .n) (l .count) (c .before .before .loop-test .taken) in
+    let h = goes-on (l .again) (x .before .value-of .result - 1) _ (c .before .before .loop-test .taken) in
     omega arith)
     (λ c.
     let l = c .before .before .before in
-    let a = l .before .before .before .before .before .before .before .before .args in
-    turning-more (l .loop .inv) (goes-on _ _ (a .n) _ (c .before .before .loop-test .taken)) (c .lay-block2 .ensures .0) (ap (λ (x : Laid). x .count) (c .lay-block2 .ensures .1)))
+    turning-more (l .loop .inv) (goes-on _ _ _ (c .before .before .loop-test .taken)) (c .lay-block2 .ensures .0) (ap (λ (x : Laid). x .count) (c .lay-block2 .ensures .1)))
     (λ c.
     let x = c .before .before .before .before in
     let e = x .before .before in
