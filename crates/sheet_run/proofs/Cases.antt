@@ -17,7 +17,8 @@ use Rattle.model.specs.Lifecycle.{reset, initialiseAnswer, initialise}
 use Rattle.model.specs.Steps.{startAnswer, start, pushAnswer, push, popAnswer, pop, stalls, delivered, readWord, countedBits, advance, stepProgress, step}
 use Rattle.model.specs.Whole.{turn, turns, wholeAnswer, drive, whole}
 use Rattle.model.specs.declared.Phase.the-variants.{Ready}
-use Rattle.registers.specs.Registers.{regionsOf, infoOf, progressAt, standsFor, encoded, decode, putFromPhysical, putFromErrors, putFromPrograms, putFromReads, putFromProgress, putFromErase, putFromInfo, putFromRegions, putFromInputs, put, zeroed, cleared}
+use Rattle.registers.specs.Registers.{regionsOf, infoOf, progressAt, standsFor, encoded, decode, putFromPhysical, putFromErrors, putFromPrograms}
+use Rattle.registers.specs.Registers.{putFromReads, putFromProgress, putFromErase, putFromInfo, putFromRegions, putFromInputs, put, zeroed, cleared}
 use Rattle.calls.specs.Calls.{setDefaultIn, resetIn, initialiseIn, wholeIn}
 use Rattle.numbers.specs.Number.{continued, lastGroup, groupsValue, shortest, numberBetween, numberAt, limited, numberTo, thenNumber, thenNumbers}
 use Rattle.sheets.specs.declared.Verdict.the-variants.{Good}
