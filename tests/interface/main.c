@@ -38,6 +38,7 @@ int main(void) {
     run_group("answers of every call in every state", test_answers);
     run_group("lost turns left by every call", test_lost_turns_left);
     run_group("values of every call", test_values);
+    run_group("bit counts", test_bit_counts);
     run_group("rounds", test_rounds);
     run_group("deciders of every page", test_deciders);
     run_group("denied reads", test_denied_reads);

@@ -26,6 +26,7 @@ void test_understood(void);
 void test_litter(void);
 void test_operation_fields(void);
 void test_values(void);
+void test_bit_counts(void);
 void test_rounds(void);
 void test_deciders(void);
 void test_denied_reads(void);

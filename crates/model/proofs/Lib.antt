@@ -3,6 +3,7 @@
 pub mod Bool
 pub mod Geometry
 pub mod Words
+pub mod Counting
 pub mod Places
 pub mod QueueLaws
 pub mod Rights

@@ -5,6 +5,7 @@ use native.Mathlib.Nat.{mod-lt, zero-lt-suc, mod-eq-of-lt}
 use native.Mathlib.Numerals.{add-one}
 use native.Mathlib.Omega.{arith}
 use lib.Arith.{lt-one}
+use lib.Dec.{lit≤}
 use lib.Pow.{shr-lt}
 use lib.Bits.{bitAnd, differ, and-shr, and-mod, and-comm, and-le-l, and-mask}
 use Rattle.model.specs.Words.{programmed, differIn, changedBits, allOnes}
@@ -13,15 +14,19 @@ use Rattle.model.specs.Words.{programmed, differIn, changedBits, allOnes
 pub digit-below : (a : ℕ) → a % 2 < 2
 digit-below a = mod-lt a (zero-lt-suc 1)
 
+-- What holds of 0 and 1 in either place holds of any two binary digits.
+pub of-digits : (P : ℕ → ℕ → Type 0) → P 0 0 → P 0 1 → P 1 0 → P 1 1 → (x y : ℕ) → x < 2 → y < 2 → P x y
+of-digits P p q r s zero zero h k = p
+of-digits P p q r s zero (suc zero) h k = q
+of-digits P p q r s zero (suc (suc y)) h k = absurd (omega arith)
+of-digits P p q r s (suc zero) zero h k = r
+of-digits P p q r s (suc zero) (suc zero) h k = s
+of-digits P p q r s (suc zero) (suc (suc y)) h k = absurd (omega arith)
+of-digits P p q r s (suc (suc x)) y h k = absurd (omega arith)
+
 -- Of two binary digits, `bitAnd` is the smaller.
 and-digits : (x y : ℕ) → x < 2 → y < 2 → bitAnd x y ≡ min x y
-and-digits zero zero h k = refl
-and-digits zero (suc zero) h k = refl
-and-digits zero (suc (suc y)) h k = absurd (omega arith)
-and-digits (suc zero) zero h k = refl
-and-digits (suc zero) (suc zero) h k = refl
-and-digits (suc zero) (suc (suc y)) h k = absurd (omega arith)
-and-digits (suc (suc x)) y h k = absurd (omega arith)
+and-digits = of-digits (λ (x y : ℕ). bitAnd x y ≡ min x y) refl refl refl refl
 
 -- Bit k of a programmed word is one only if bit k of both words is one.
 pub programmed-bit : (a b k : ℕ) → programmed a b / 2 ^ k % 2 ≡ min (a / 2 ^ k % 2) (b / 2 ^ k % 2)
@@ -51,7 +56,7 @@ pub programming-onto-ones : (a : ℕ) → a < 2 ^ 32 → programmed allOnes a �
 programming-onto-ones a h = programmed-either-way allOnes a ∙ programming-ones a h
 
 -- Digits that are the same do not differ.
-pub same-digits : (x y : ℕ) → x ≡ y → differ x y ≡ 0
+same-digits : (x y : ℕ) → x ≡ y → differ x y ≡ 0
 same-digits zero y e = sym e
 same-digits (suc x) zero e = e
 same-digits (suc x) (suc y) e = same-digits x y (omega arith)
@@ -64,17 +69,7 @@ digits-the-same (suc x) (suc y) e = ap suc (digits-the-same x y e)
 
 -- Two binary digits differ by at most one.
 pub digits-at-most : (x y : ℕ) → x < 2 → y < 2 → differ x y ≤ 1
-digits-at-most zero y h k = omega arith
-digits-at-most (suc x) zero h k = omega arith
-digits-at-most (suc zero) (suc y) h k = omega arith
-digits-at-most (suc (suc x)) (suc y) h k = absurd (omega arith)
-
--- Two binary digits that are not the same differ by one.
-pub digits-unlike : (x y : ℕ) → x < 2 → y < 2 → (x ≡ y → ⊥) → differ x y ≡ 1
-digits-unlike zero zero h k ne = absurd (ne refl)
-digits-unlike zero (suc y) h k ne = omega arith
-digits-unlike (suc x) zero h k ne = omega arith
-digits-unlike (suc x) (suc y) h k ne = absurd (ne (omega arith))
+digits-at-most = of-digits (λ (x y : ℕ). differ x y ≤ 1) (lit≤ tt) (lit≤ tt) (lit≤ tt) (lit≤ tt)
 
 -- Digits differ alike either way round.
 digits-either-way : (x y : ℕ) → differ x y ≡ differ y x
@@ -82,11 +77,6 @@ digits-either-way zero zero = refl
 digits-either-way zero (suc y) = refl
 digits-either-way (suc x) zero = refl
 digits-either-way (suc x) (suc y) = digits-either-way x y
-
--- One place more: the lowest, and then those above it.
-pub differIn-more : (k a b : ℕ) → differIn (k + 1) a b ≡ differ (a % 2) (b % 2) + differIn k (a / 2) (b / 2)
-unfolding differIn
-differIn-more k a b = rw add-one
 
 -- Of k places at most k differ.
 pub differIn-at-most : (k a b : ℕ) → differIn k a b ≤ k
@@ -109,7 +99,7 @@ differIn-either-way (suc k) a b =
     ap₂ (λ (x y : ℕ). x + y) (digits-either-way (a % 2) (b % 2)) (differIn-either-way k (a / 2) (b / 2))
 
 -- Without its lowest bit, a word of k + 1 bits has k.
-half : (k a : ℕ) → a < 2 ^ suc k → a / 2 < 2 ^ k
+pub half : (k a : ℕ) → a < 2 ^ suc k → a / 2 < 2 ^ k
 half k a h = shr-lt k 1 (rw add-one h)
 
 -- Words of k bits that differ in no place are the same.

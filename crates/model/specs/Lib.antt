@@ -3,6 +3,8 @@
 -- 'The shelf: pages and words'
 pub mod Geometry
 pub mod Words
+-- Change request L5 (02): the count of changed bits in two other forms
+pub mod Counting
 -- 'What may be asked'
 pub mod Kinds
 pub mod Places

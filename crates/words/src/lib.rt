@@ -35,21 +35,11 @@ pub fn programmed(old: u32, new: u32) -> u32
     old & new
 }
 
-// The number of the 32 bit places where the two words differ, counted place by place.
+// The number of the 32 bit places where the two words differ, counted in their difference.
 pub fn changed_bits(old: u32, new: u32) -> u32
     ensures { λ r. ⌜ (r ≡ changedBits old new) × (r ≤ 32) ⌝ }
 {
-    let mut a = old;
-    let mut b = new;
-    let mut count: u32 = 0;
-    for place in 0..32u32 {
-        if a % 2 != b % 2 {
-            count += 1;
-        }
-        a = a / 2;
-        b = b / 2;
-    }
-    count
+    u32::count_ones(old ^ new)
 }
 
 // Programs a word of the image, and answers the bits that this changes.
