@@ -3,15 +3,15 @@
 
 #define WORD_COUNT 100u
 
-/* Every bit alone, every bit missing, every run of low bits from none to 31, and four words more; then these again. */
+/* Every bit alone, every bit missing, the runs of 2 to 30 low bits, and seven words more; then these again. */
 static uint32_t word_at(uint32_t k) {
-    static const uint32_t others[4] = {0x12345678u, 0xAAAAAAAAu, 0xDEADBEEFu, LURGABEL_ERASED};
+    static const uint32_t others[7] = {0, LURGABEL_ERASED, 0x12345678u, 0x87654321u, 0x55555555u, 0xAAAAAAAAu, 0xF0F0u};
     const uint32_t i = k % WORD_COUNT, bit = (uint32_t)1 << i % 32;
-    return i < 32 ? bit : i < 64 ? ~bit : i < 96 ? bit - 1 : others[i - 96];
+    return i < 32 ? bit : i < 64 ? ~bit : i < 93 ? 4 * bit - 1 : others[i - 93];
 }
 
-/* Place by place. */
-static uint32_t places_unlike(uint32_t a, uint32_t b) {
+/* Place by place: the library counts a whole word at once. */
+static uint32_t hamming_distance(uint32_t a, uint32_t b) {
     uint32_t place, count = 0;
     for (place = 0; place < 32; place++) {
         if ((a >> place & 1) != (b >> place & 1)) {
@@ -34,7 +34,7 @@ static bool run_changes(lurgabel_controller *c, lurgabel_operation o, uint32_t *
 /* As a whole, and then by steps. */
 static bool programs(lurgabel_controller *c, uint32_t stored, uint32_t given) {
     const lurgabel_operation one = on_data(LURGABEL_PROGRAM, 0, 1);
-    const uint32_t left = stored & given, bits = places_unlike(stored, left);
+    const uint32_t left = stored & given, bits = hamming_distance(stored, left);
     bool whole;
     image[0] = stored;
     whole = run_changes(c, one, &given, bits) && image[0] == left;
@@ -51,35 +51,43 @@ static void test_programs(void) {
         while (k < WORD_COUNT && programs(&c, word_at(i), word_at(k))) {
             k++;
         }
-        check_at(k == WORD_COUNT, "every word programmed onto one", i);
+        check_at(k == WORD_COUNT, "every word programmed onto one", i * WORD_COUNT + k);
     }
 }
 
-/* Fills the first words of the image, and gives the number of bits that erasing them changes. */
-static uint32_t filled(uint32_t words) {
-    uint32_t k, bits = 0;
+static void fill(uint32_t words) {
+    uint32_t k;
     lurgabel_blank_image(image, IMAGE_WORDS);
     for (k = 0; k < words; k++) {
         image[k] = word_at(k);
-        bits += places_unlike(image[k], LURGABEL_ERASED);
+    }
+}
+
+/* The bits that erasing so many words changes. */
+static uint32_t bits_to_erase(uint32_t words) {
+    uint32_t k, bits = 0;
+    for (k = 0; k < words; k++) {
+        bits += hamming_distance(word_at(k), LURGABEL_ERASED);
     }
     return bits;
 }
 
 static void test_erases(void) {
     const uint32_t bank_words = 16 * LURGABEL_PAGE_WORDS;
+    const lurgabel_operation page = on_data(LURGABEL_PAGE_ERASE, 0, 0), bank = on_data(LURGABEL_BANK_ERASE, 0, 0);
     lurgabel_controller c = ready();
-    uint32_t k = 0, bits = filled(LURGABEL_PAGE_WORDS);
+    uint32_t k = 0;
     c.bank_erase[0] = 1;
-    check(run_changes(&c, on_data(LURGABEL_PAGE_ERASE, 0, 0), NULL, bits), "whole page erase");
-    bits = filled(bank_words);
-    check(run_changes(&c, on_data(LURGABEL_BANK_ERASE, 0, 0), NULL, bits), "whole bank erase");
-    check(filled(bank_words) == bits && lurgabel_start(&c, on_data(LURGABEL_BANK_ERASE, 0, 0)) == LURGABEL_ACCEPTED,
-          "bank erase started");
-    while (k < bank_words && step_changes(&c, places_unlike(word_at(k), LURGABEL_ERASED))) {
+    fill(LURGABEL_PAGE_WORDS);
+    check(run_changes(&c, page, NULL, bits_to_erase(LURGABEL_PAGE_WORDS)), "whole page erase");
+    fill(bank_words);
+    check(run_changes(&c, bank, NULL, bits_to_erase(bank_words)), "whole bank erase");
+    fill(bank_words);
+    check(lurgabel_start(&c, bank) == LURGABEL_ACCEPTED, "start of a bank erase");
+    while (k < bank_words && step_changes(&c, hamming_distance(word_at(k), LURGABEL_ERASED))) {
         k++;
     }
-    check(k == bank_words && c.progress.running == 0, "each step of a bank erase");
+    check_at(k == bank_words && c.progress.running == 0, "each step of a bank erase", k);
 }
 
 void test_bit_counts(void) {

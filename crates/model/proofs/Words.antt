@@ -14,7 +14,7 @@ use Rattle.model.specs.Words.{programmed, differIn, changedBits, allOnes
 pub digit-below : (a : ℕ) → a % 2 < 2
 digit-below a = mod-lt a (zero-lt-suc 1)
 
--- What holds of 0 and 1 in either place holds of any two binary digits.
+-- What holds of every pair of 0 and 1 holds of any two binary digits.
 pub of-digits : (P : ℕ → ℕ → Type 0) → P 0 0 → P 0 1 → P 1 0 → P 1 1 → (x y : ℕ) → x < 2 → y < 2 → P x y
 of-digits P p q r s zero zero h k = p
 of-digits P p q r s zero (suc zero) h k = q
@@ -55,11 +55,10 @@ programming-ones a h = and-mask a 32 ∙ mod-eq-of-lt h
 pub programming-onto-ones : (a : ℕ) → a < 2 ^ 32 → programmed allOnes a ≡ a
 programming-onto-ones a h = programmed-either-way allOnes a ∙ programming-ones a h
 
--- Digits that are the same do not differ.
-same-digits : (x y : ℕ) → x ≡ y → differ x y ≡ 0
-same-digits zero y e = sym e
-same-digits (suc x) zero e = e
-same-digits (suc x) (suc y) e = same-digits x y (omega arith)
+-- A digit does not differ from itself.
+same-digit : (x : ℕ) → differ x x ≡ 0
+same-digit zero = refl
+same-digit (suc x) = same-digit x
 
 -- Digits that do not differ are the same.
 pub digits-the-same : (x y : ℕ) → differ x y ≡ 0 → x ≡ y
@@ -89,7 +88,7 @@ differIn-at-most (suc k) a b =
 pub differIn-itself : (k a : ℕ) → differIn k a a ≡ 0
 unfolding differIn
 differIn-itself zero a = refl
-differIn-itself (suc k) a = ap₂ (λ (x y : ℕ). x + y) (same-digits (a % 2) (a % 2) refl) (differIn-itself k (a / 2))
+differIn-itself (suc k) a = ap₂ (λ (x y : ℕ). x + y) (same-digit (a % 2)) (differIn-itself k (a / 2))
 
 -- Two words differ in as many places either way round.
 pub differIn-either-way : (k a b : ℕ) → differIn k a b ≡ differIn k b a

@@ -1,4 +1,5 @@
--- The bits that a store changes, in two other forms: the count is the Hamming distance of the old and the new word.
+-- The bits that a store changes, in two other forms: by the places where the old and the new word differ, and by the ones in
+-- their difference. The count is their Hamming distance.
 -- (02, L5: 'show for any two words that the count is the number of places where they differ')
 use Prim.Native.Nat.{ℕ, zero, suc, _+_, _/_, _%_, _^_, _<_}
 use mathlib.Core.Path.{_≡_}
@@ -8,7 +9,7 @@ use lib.Count.{ones}
 use lib.Dec.{eqb}
 use Rattle.model.specs.Words.{changedBits}
 
--- Two words differ at place i: their bits i are not the same.
+-- Two words differ at place i: bit i of the one is not bit i of the other.
 abbrev pub differsAt : ℕ → ℕ → ℕ → Bool
 differsAt a b i = not (eqb (a / 2 ^ i % 2) (b / 2 ^ i % 2))
 
