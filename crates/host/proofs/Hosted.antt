@@ -1,7 +1,7 @@
 -- What a host read and a view tell, by what their checks answer. Assumes nothing.
 use Prim.Native.Nat.{ℕ, _+_, _*_, _≤_, _<_}
 use native.Mathlib.Omega.{arith}
-use mathlib.Core.Path.{_≡_, refl, ap, sym}
+use mathlib.Core.Path.{_≡_, refl, ap, sym, _∙_}
 use mathlib.Core.Bool.{true, false}
 use mathlib.Core.List.{List}
 use lib.Dec.{leb}
@@ -63,6 +63,12 @@ module _ (s : List ℕ) (f : Flash) where
     unfolding hostAnswer standsFor
     host-answer-same = rest-same hostRest
 
+    -- In a state that passes checks 1 to 3 the others decide.
+    pub late-same : accepts (readyAnswer (validWith (decode s) f) (decode s .phase)) ≡ true
+        → orElse (check (unaligned a) Malformed) (orElse (check (pastData (getD s pagesAt 0) a) OutOfRange) (readAnswer (standsFor s .setup) (pageOf a)))
+        ≡ hostAnswer (decode s) f a
+    late-same ready = rw ready at host-answer-same
+
     module _ (h : accepts (hostAnswer (decode s) f a) ≡ true) where
       host-pages : getD s pagesAt 0 ≡ decode s .setup .pages
       unfolding hostAnswer
@@ -85,6 +91,16 @@ module _ (s : List ℕ) (f : Flash) where
     pub read-refused : accepts (hostAnswer (decode s) f a) ≡ false → toldHostWord (hostAnswer (decode s) f a) 0 ≡ hostReadIn s f a
     unfolding hostReadIn hostRead
     read-refused h = rw h
+
+    -- In a state that does not pass checks 1 to 3 these decide.
+    early-same : accepts (readyAnswer (validWith (decode s) f) (decode s .phase)) ≡ false
+        → hostAnswer (decode s) f a ≡ readyAnswer (validWith (decode s) f) (decode s .phase)
+    unfolding hostAnswer
+    early-same h = rw h
+
+    pub read-early : accepts (readyAnswer (validWith (decode s) f) (decode s .phase)) ≡ false
+        → toldHostWord (readyAnswer (validWith (decode s) f) (decode s .phase)) 0 ≡ hostReadIn s f a
+    read-early h = rw (early-same h) at (read-refused (ap accepts (early-same h) ∙ h))
 
   -- ---- view
 

@@ -1,12 +1,15 @@
 // Host read and page view on registers: reads past the queues, allowed during an operation and never recorded.
 ghost use mathlib.Core.Path.{_≡_};
-ghost use mathlib.Core.Bool.{false};
+ghost use mathlib.Core.Bool.{true, false};
 ghost use Prim.Native.Nat.{_+_, _*_, _<_, _≤_};
 ghost use lib.ListN.{getD};
 ghost use denote.Ref.{ptr};
 ghost use Rattle.model.specs.State.{flash};
-ghost use Rattle.model.specs.Geometry.{imagePage, firstWord};
-ghost use Rattle.model.specs.Host.{readAnswer, hostAnswer, viewAnswer, view};
+ghost use Rattle.model.specs.Geometry.{pageOf, imagePage, firstWord};
+ghost use Rattle.model.specs.Refusals.{accepts, check, orElse, readyAnswer};
+ghost use Rattle.model.specs.Checks.{unaligned, pastData};
+ghost use Rattle.model.specs.Valid.{validWith};
+ghost use Rattle.model.specs.Host.{readAnswer, viewAnswer, view};
 ghost use Rattle.registers.specs.Layout.{pagesAt};
 ghost use Rattle.registers.specs.Registers.{standsFor, decode};
 ghost use Rattle.calls.specs.Calls.{toldHostWord, toldStart, hostReadIn, viewIn};
@@ -27,21 +30,17 @@ fn read_answer(s: &Registers, p: Page) -> Answer
     refusals::check(!rights::grants(ruling.rights, 1), Answer::Denied(by))
 }
 
-// Checks 1, 2, 3, 5, 7 and 9, in this order.
-fn host_answer(s: &Registers, image: &[u32], at: ByteAddress) -> Answer
-    ensures { λ r. ⌜ r ≡ hostAnswer (decode (now (s .entry))) (flash (now (image .entry))) at ⌝ }
+// Checks 5, 7 and 9 of a host read, in this order.
+fn late_answer(s: &Registers, at: ByteAddress) -> Answer
+    ensures { λ r. ⌜ r ≡ orElse (check (unaligned at) Answer.Malformed) (orElse (check (pastData (getD (now (s .entry)) pagesAt 0) at) Answer.OutOfRange) (readAnswer (standsFor (now (s .entry)) .setup) (pageOf at))) ⌝ }
 {
-    let ready = validity::ready_with(s, image);
-    let form = refusals::check(checks::unaligned(at), Answer::Malformed);
-    let range = refusals::check(
-        checks::past_data(registers::pages(s), at),
-        Answer::OutOfRange,
-    );
-    let right = read_answer(s, geometry::page_of(at));
-    refusals::or_else(
-        ready,
-        refusals::or_else(form, refusals::or_else(range, right)),
-    )
+    if checks::unaligned(at) {
+        return Answer::Malformed;
+    }
+    if checks::past_data(registers::pages(s), at) {
+        return Answer::OutOfRange;
+    }
+    read_answer(s, geometry::page_of(at))
 }
 
 fn told_word(answer: Answer, word: u32) -> ToldHostWord
@@ -55,16 +54,28 @@ fn told_word(answer: Answer, word: u32) -> ToldHostWord
     }
 }
 
-// The true word at an address of the data pages.
-pub fn host_read(s: &Registers, image: &[u32], at: ByteAddress) -> ToldHostWord
+// A host read of a state that has passed checks 1 to 3.
+pub fn ready_read(s: &Registers, image: &[u32], at: ByteAddress) -> ToldHostWord
+    requires { ⌜ accepts (readyAnswer (validWith (decode (now s)) (flash (now image))) (decode (now s) .phase)) ≡ true ⌝ }
     ensures { λ r. ⌜ r ≡ hostReadIn (now (s .entry)) (flash (now (image .entry))) at ⌝ }
 {
-    let answer = host_answer(s, image, at);
+    let answer = late_answer(s, at);
     if !refusals::accepts(answer) {
         return told_word(answer, 0);
     }
     let place = geometry::word_at(registers::pages(s), false, 0, at);
     told_word(answer, words::delivered(image, place))
+}
+
+// The true word at an address of the data pages.
+pub fn host_read(s: &Registers, image: &[u32], at: ByteAddress) -> ToldHostWord
+    ensures { λ r. ⌜ r ≡ hostReadIn (now (s .entry)) (flash (now (image .entry))) at ⌝ }
+{
+    let ready = validity::ready_with(s, image);
+    if !refusals::accepts(ready) {
+        return told_word(ready, 0);
+    }
+    ready_read(s, image, at)
 }
 
 // Checks 1, 2, 3, 7 and 9, in this order.

@@ -1,3 +1,4 @@
 -- Laws of the look-ups.
 
+pub mod OnePage
 pub mod Permissions

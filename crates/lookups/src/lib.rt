@@ -5,7 +5,7 @@ ghost use lib.Dec.{eqb};
 ghost use Prim.Native.Nat.{_+_, _<_, _≤_, _%_};
 ghost use lib.ListN.{getD};
 ghost use Rattle.model.specs.Rights.{dataRuling, infoRuling, rulingAt, pageGrants, leading, allowedWords, denied, deciderOf, readableWords};
-ghost use Rattle.model.specs.Kinds.{isRead, isBankErase};
+ghost use Rattle.model.specs.Kinds.{isRead, isProgram, isBankErase};
 ghost use Rattle.model.specs.Places.{spanWords};
 ghost use mathlib.Core.Bool.{cond};
 ghost use Rattle.model.specs.Refusals.{numberOf, accepts, isDenied, isDeniedRead, check};
@@ -197,10 +197,13 @@ pub fn operation_answer(s: &Registers, o: Operation) -> Answer
     if !refusals::accepts(form) {
         return form;
     }
-    let range = refusals::check(checks::out_of_range(d, o), Answer::OutOfRange);
-    let window = refusals::check(checks::crosses_window(o), Answer::CrossesWindow);
-    let rights = right_answer(s, o);
-    refusals::or_else(range, refusals::or_else(window, rights))
+    if checks::out_of_range(d, o) {
+        return Answer::OutOfRange;
+    }
+    if checks::crosses_window(o) {
+        return Answer::CrossesWindow;
+    }
+    right_answer(s, o)
 }
 
 // A denied read is refused and still starts.
@@ -234,6 +237,24 @@ pub fn read_fits(s: &Registers, o: Operation, readable: u32) -> bool
         return false;
     }
     readable == allowed_words(s, o)
+}
+
+// Whether an operation is a program that checks 5, 7, 8 and 9 accept: its words lie in one page.
+pub fn program_fits(s: &Registers, o: Operation) -> bool
+    ensures { λ r. ⌜ r ≡ (isProgram o && accepts (operationAnswer (standsFor (now (s .entry)) .setup) o)) ⌝ }
+{
+    let program = places::is_program(o);
+    let formed = refusals::accepts(checks::form_answer(o));
+    if !(program & formed) {
+        return false;
+    }
+    if checks::out_of_range(registers::pages(s), o) {
+        return false;
+    }
+    if checks::crosses_window(o) {
+        return false;
+    }
+    page_grants(s, o, geometry::page_of(o.address))
 }
 
 // Where a refusal is recorded: of a denied read at its first denied word, else at the operation's own address.

@@ -3,7 +3,7 @@
 ghost use mathlib.Core.Path.{_≡_};
 ghost use Prim.Native.Nat.{_+_, _<_, _≤_, _%_};
 ghost use lib.ListN.{getD, set};
-ghost use Rattle.registers.specs.Layout.{pagesAt, phaseAt, defaultAt, permissionAt, movedAt, readsFrom, programsFrom, lostFrom};
+ghost use Rattle.registers.specs.Layout.{pagesAt, phaseAt, defaultAt, regionFrom, pageFrom, permissionAt, movedAt, readsFrom, programsFrom, lostFrom};
 ghost use Rattle.registers.specs.Registers.{phaseOf, inputsAt, regionAt, settingAt, operationAt, workAt, progressAt, queueAt, errorsAt, isOn, regionEncoded, settingEncoded, progressEncoded, plainEncoded, maskOf, flagOf, phaseNumber, putInputs, putRegion, putSetting, putErase, putQueue, putRunning, putErrors, noProgress, cleared};
 use model::ByteAddress;
 use model::Errors;
@@ -129,6 +129,39 @@ pub fn page_setting(s: &Registers, i: usize) -> PageSetting
     let on = s[at] != 0;
     let rights = (s[at + 1] % 256) as u8;
     PageSetting { on, rights }
+}
+
+// The numbers of a table's row, as they lie.
+pub fn region_flag(s: &Registers, i: usize) -> u32
+    requires { ⌜ i < 8 ⌝ }
+    ensures { λ r. ⌜ r ≡ getD (now (s .entry)) (regionFrom i + 2) 0 ⌝ }
+{
+    let at = REGIONS + 4 * i;
+    s[at + 2]
+}
+
+pub fn region_rights(s: &Registers, i: usize) -> u32
+    requires { ⌜ i < 8 ⌝ }
+    ensures { λ r. ⌜ r ≡ getD (now (s .entry)) (regionFrom i + 3) 0 ⌝ }
+{
+    let at = REGIONS + 4 * i;
+    s[at + 3]
+}
+
+pub fn page_flag(s: &Registers, i: usize) -> u32
+    requires { ⌜ i < 26 ⌝ }
+    ensures { λ r. ⌜ r ≡ getD (now (s .entry)) (pageFrom i) 0 ⌝ }
+{
+    let at = INFO + 2 * i;
+    s[at]
+}
+
+pub fn page_rights(s: &Registers, i: usize) -> u32
+    requires { ⌜ i < 26 ⌝ }
+    ensures { λ r. ⌜ r ≡ getD (now (s .entry)) (pageFrom i + 1) 0 ⌝ }
+{
+    let at = INFO + 2 * i;
+    s[at + 1]
 }
 
 // Whether a bank may be erased.

@@ -7,15 +7,16 @@ use mathlib.Core.List.{List}
 use lib.Dec.{ltb}
 use lib.ListN.{length, getD, set}
 use Rattle.model.specs.State.{Flash}
-use Rattle.model.specs.Refusals.{accepts}
-use Rattle.model.specs.Valid.{lostLimit}
+use Rattle.model.specs.Refusals.{accepts, readyAnswer}
+use Rattle.model.specs.Valid.{lostLimit, validWith}
 use Rattle.model.specs.Steps.{step}
 use Rattle.model.specs.Host.{hostRead}
-use Rattle.model.specs.Rounds.{lostIn, nextBank, hostServed, hostUnserved, stepServed, hostAlone, stepAlone, hostGoes, stepGoes, contest, bothGo}
+use Rattle.model.specs.Rounds.{lostIn, wouldMove, nextBank, hostServed, hostUnserved, stepServed, hostAlone, stepAlone, hostGoes, stepGoes, contest, bothGo}
 use Rattle.model.specs.declared.ByteAddress.{ByteAddress}
 use Rattle.model.specs.declared.HostTurn.{HostTurn}
 use Rattle.model.specs.declared.Turn.the-variants.{Unasked}
 use Rattle.model.specs.declared.Controller.{Controller}
+use Rattle.model.proofs.Bool.{and-left}
 use Rattle.model.proofs.Rounds.{would-go, goes-accepted, step-leaves-alone}
 use Rattle.registers.specs.Layout.{lostFrom}
 use Rattle.registers.specs.Registers.{decode, put}
@@ -29,6 +30,12 @@ use Rattle.calls.specs.declared.ToldHostTurn.{ToldHostTurn}
 use Rattle.calls.specs.declared.ToldRound.{ToldRound}
 use Rattle.rounds.specs.Turns.{Going, Contested, servedHost, servedStep, unservedHost, unservedStep}
 use Rattle.rounds.proofs.Going.{going-stands, going-encoded}
+
+-- A step that would move has passed checks 1 to 3.
+pub going-ready : (s : List ℕ) (f : Flash) → wouldMove (decode s) f ≡ true
+    → accepts (readyAnswer (validWith (decode s) f) (decode s .phase)) ≡ true
+unfolding wouldMove
+going-ready s f h = and-left _ _ h
 
 -- ---- the step is served
 

@@ -138,7 +138,7 @@ fn host_goes(s: &mut Registers, image: &[u32], at: ByteAddress, bank: usize) -> 
     requires { ⌜ ltb (getD (now s) (lostFrom + bank) 0) lostLimit ≡ true ⌝ }
     ensures { λ r. ⌜ record { told = r; registers = now (s .exit); flash = flash (now (image .entry)) } ≡ roundLeft (now (s .entry)) (hostGoes (decode (now (s .entry))) (flash (now (image .entry))) at) ⌝ }
 {
-    let told = host::host_read(s, image, at);
+    let told = host::ready_read(s, image, at);
     let lost = registers::lost(s, bank);
     registers::put_lost(s, bank, lost + 1);
     ToldRound {
@@ -152,7 +152,7 @@ fn step_goes(s: &mut Registers, image: &mut [u32], bank: usize) -> ToldRound
     requires { ⌜ Contested (now s) (flash (now image)) bank ⌝ }
     ensures { λ r. ⌜ record { told = r; registers = now (s .exit); flash = flash (now (image .exit)) } ≡ roundLeft (now (s .entry)) (stepGoes (decode (now (s .entry))) (flash (now (image .entry)))) ⌝ }
 {
-    let told = steps::step(s, image);
+    let told = steps::ready_step(s, image);
     registers::put_lost(s, bank, 0);
     ToldRound {
         host: host_unserved(1),

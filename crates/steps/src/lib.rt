@@ -2,9 +2,11 @@
 ghost use mathlib.Core.Path.{_≡_};
 ghost use Prim.Native.Nat.{_+_, _<_};
 ghost use Rattle.model.specs.State.{flash};
-ghost use Rattle.model.specs.Refusals.{numberOf};
+ghost use mathlib.Core.Bool.{true};
+ghost use Rattle.model.specs.Refusals.{numberOf, accepts, readyAnswer};
+ghost use Rattle.model.specs.Valid.{validWith};
 ghost use Rattle.model.specs.Steps.{stalls, advance};
-ghost use Rattle.registers.specs.Registers.{standsFor};
+ghost use Rattle.registers.specs.Registers.{standsFor, decode};
 ghost use Rattle.calls.specs.Calls.{movementNumber, stepLeft, stepIn};
 ghost use Rattle.steps.specs.Stepping.{Moves, toldMoved, registersMoved};
 use calls::ToldStep;
@@ -119,14 +121,11 @@ fn advance(s: &mut Registers, image: &mut [u32], w: Work) -> ToldStep
     }
 }
 
-// Checks 1, 2, 3 and 12.
-pub fn step(s: &mut Registers, image: &mut [u32]) -> ToldStep
+// A step of a state that has passed checks 1 to 3: check 12.
+pub fn ready_step(s: &mut Registers, image: &mut [u32]) -> ToldStep
+    requires { ⌜ accepts (readyAnswer (validWith (decode (now s)) (flash (now image))) (decode (now s) .phase)) ≡ true ⌝ }
     ensures { λ r. ⌜ record { told = r; registers = now (s .exit); flash = flash (now (image .exit)) } ≡ stepIn (now (s .entry)) (flash (now (image .entry))) ⌝ }
 {
-    let ready = validity::ready_with(s, image);
-    if !refusals::accepts(ready) {
-        return still(ready, Movement::None);
-    }
     let progress = registers::progress(s);
     let Progress::Running(work) = progress else {
         return still(Answer::Unexpected, Movement::None);
@@ -135,4 +134,15 @@ pub fn step(s: &mut Registers, image: &mut [u32]) -> ToldStep
         return still(Answer::Accepted, Movement::Stalled);
     }
     advance(s, image, work)
+}
+
+// Checks 1, 2, 3 and 12.
+pub fn step(s: &mut Registers, image: &mut [u32]) -> ToldStep
+    ensures { λ r. ⌜ record { told = r; registers = now (s .exit); flash = flash (now (image .exit)) } ≡ stepIn (now (s .entry)) (flash (now (image .entry))) ⌝ }
+{
+    let ready = validity::ready_with(s, image);
+    if !refusals::accepts(ready) {
+        return still(ready, Movement::None);
+    }
+    ready_step(s, image)
 }

@@ -1,3 +1,4 @@
 -- Check 1 of the registers.
 
 pub mod Taken
+pub mod Together

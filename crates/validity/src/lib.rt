@@ -14,35 +14,50 @@ use model::Answer;
 use model::LOST_LIMIT;
 use model::Progress;
 use model::QUEUE_WORDS;
+use model::Region;
 use model::Work;
 use registers::Registers;
 
-// Of the tables, that each number stands for something and that it fits, in one look.
+// A region lies among this many pages.
+fn ends_by(g: Region, limit: usize) -> bool
+    ensures { λ r. ⌜ r ≡ leb (g .first .0 + g .count) limit ⌝ }
+{
+    let first = g.first;
+    first.0 as usize + g.count as usize <= limit
+}
+
+// Of the tables, that each number stands for something and that it fits, in one look: no flag is past 1 and no rights past 7
+// exactly if all of them together, bit by bit, are not.
 fn regions_hold(s: &Registers) -> bool
     ensures { λ r. ⌜ r ≡ (every (regionEncoded (now (s .entry))) 8 && all (regionFits (getD (now (s .entry)) pagesAt 0)) (regionsOf (now (s .entry)))) ⌝ }
 {
-    let d = registers::pages(s);
+    let limit = 2 * (registers::pages(s) as usize);
     let mut ok = true;
+    let mut flags: u32 = 0;
+    let mut rights: u32 = 0;
     for i in 0..8usize {
-        let g = registers::region(s, i);
-        let fits = bounds::region_fits(d, g);
-        let known = registers::region_encoded(s, i);
-        ok = ok & (known & fits);
+        let ends = ends_by(registers::region(s, i), limit);
+        let flag = registers::region_flag(s, i);
+        let right = registers::region_rights(s, i);
+        flags = flags | flag;
+        rights = rights | right;
+        ok = ok & ends;
     }
-    ok
+    ok & ((flags <= 1) & (rights <= 7))
 }
 
 fn pages_hold(s: &Registers) -> bool
     ensures { λ r. ⌜ r ≡ (every (settingEncoded (now (s .entry))) 26 && all pageFits (infoOf (now (s .entry)))) ⌝ }
 {
-    let mut ok = true;
+    let mut flags: u32 = 0;
+    let mut rights: u32 = 0;
     for i in 0..26usize {
-        let p = registers::page_setting(s, i);
-        let fits = bounds::page_fits(p);
-        let known = registers::page_encoded(s, i);
-        ok = ok & (known & fits);
+        let flag = registers::page_flag(s, i);
+        let right = registers::page_rights(s, i);
+        flags = flags | flag;
+        rights = rights | right;
     }
-    ok
+    (flags <= 1) & (rights <= 7)
 }
 
 fn queues_fit(s: &Registers, ready: bool) -> bool
@@ -86,11 +101,10 @@ fn work_fits(s: &Registers, w: Work) -> bool
             fits & (left & none)
         }
         Work::Program { op, moved } => {
-            let kind = places::is_program(op);
             let left = (moved as usize) < places::total_words(d, op);
-            let accepted = refusals::accepts(lookups::operation_answer(s, op));
+            let fits = lookups::program_fits(s, op);
             let pushed = pushed_fits(moved, queued, op.count);
-            kind & (left & (accepted & pushed))
+            fits & (left & pushed)
         }
         Work::Erase { op, moved } => {
             let page = places::is_page_erase(op);

@@ -1,19 +1,10 @@
 -- `host::host_read` meets its contract. Assumes nothing.
-use mathlib.Core.Path.{_≡_, sym, _∙_}
+use mathlib.Core.Path.{_≡_, sym, ap, _∙_}
 use borrow.Author.Tests.{not-true, not-false}
-use Rattle.model.specs.State.{flash}
 use Rattle.model.specs.Refusals.{accepts}
-use Rattle.model.specs.Host.{hostAnswer}
-use Rattle.registers.specs.Registers.{decode}
-use Rattle.host.proofs.Hosted.{read-inside, read-accepted, read-refused}
+use Rattle.host.proofs.Hosted.{read-early}
 use Rattle.host.proofs.host_read.Statement.{statement}
 use Rattle.host.proofs.host_read.Tie as tie
-
--- Whether the checks accepted.
-asked : (d : tie.After-accepts) →
-    let v = d .before .before .before .args in
-    d .accepts .result ≡ accepts (hostAnswer (decode (v .s .now)) (flash (v .image .now)) (v .at))
-asked d = rw (d .before .host-answer .ensures) at (d .accepts .ensures)
 
 pub host-read-spec : {M : Type 1} → statement M
 host-read-spec =
@@ -21,18 +12,6 @@ host-read-spec =
     (λ c κs. tt)
     (λ c κs. tt)
     (λ c κs. tt)
-    (λ c. let t = c .before in rw (c .told-word .ensures, t .before .before .host-answer .ensures) (read-refused _ _ _ (sym (asked (t .before)) ∙ not-true _ (t .if1 .taken))))
-    (λ c κs. tt)
-    (λ c κs. rw (c .pages .ensures) (read-inside _ _ _ (sym (asked (c .before .before)) ∙ not-false _ (c .before .if1 .left)) .0))
-    (λ c κs. rw (c .word-at .ensures, c .before .pages .ensures) (read-inside _ _ _ (sym (asked (c .before .before .before)) ∙ not-false _ (c .before .before .if1 .left)) .1))
-    (λ c κs. tt)
-    (λ c.
-    let w = c .before .before in
-    let t = w .before .before in
-    rw (
-      c .told-word2 .ensures,
-      c .before .delivered .ensures,
-      w .word-at .ensures,
-      w .before .pages .ensures,
-      t .before .before .host-answer .ensures,
-    ) (read-accepted _ _ _ (sym (asked (t .before)) ∙ not-false _ (t .if1 .left)))))
+    (λ c. let r = c .before .before .before .ready-with .ensures in rw (c .told-word .ensures, r) (read-early _ _ _ (rw r at (sym (c .before .before .accepts .ensures) ∙ not-true _ (c .before .if1 .taken)))))
+    (λ c κs. rw (c .before .before .ready-with .ensures) at (sym (c .before .accepts .ensures) ∙ not-false _ (c .if1 .left)))
+    (λ c. c .ready-read .ensures))
