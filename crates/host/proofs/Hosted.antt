@@ -27,6 +27,7 @@ use Rattle.model.proofs.Geometry.{data-inside, word-at-inside}
 use Rattle.model.proofs.Moving.{with-valid}
 use Rattle.model.proofs.Answers.{both-accept, check-passed}
 use Rattle.model.proofs.Accepting.{ready-valid, lent-fits}
+use Rattle.validity.specs.Ready.{Ready}
 use Rattle.validity.proofs.Taken.{taken-stands}
 
 module _ (s : List ℕ) (f : Flash) where
@@ -57,14 +58,14 @@ module _ (s : List ℕ) (f : Flash) where
         (orElse (check (pastData (c .setup .pages) a) OutOfRange)
         (readAnswer (c .setup) (pageOf a)))
 
-    pub host-answer-same : orElse (readyAnswer (validWith (decode s) f) (decode s .phase))
+    host-answer-same : orElse (readyAnswer (validWith (decode s) f) (decode s .phase))
         (orElse (check (unaligned a) Malformed) (orElse (check (pastData (getD s pagesAt 0) a) OutOfRange) (readAnswer (standsFor s .setup) (pageOf a))))
         ≡ hostAnswer (decode s) f a
     unfolding hostAnswer standsFor
     host-answer-same = rest-same hostRest
 
     -- In a state that passes checks 1 to 3 the others decide.
-    pub late-same : accepts (readyAnswer (validWith (decode s) f) (decode s .phase)) ≡ true
+    pub late-same : Ready s f
         → orElse (check (unaligned a) Malformed) (orElse (check (pastData (getD s pagesAt 0) a) OutOfRange) (readAnswer (standsFor s .setup) (pageOf a)))
         ≡ hostAnswer (decode s) f a
     late-same ready = rw ready at host-answer-same

@@ -1,18 +1,18 @@
 // Host read and page view on registers: reads past the queues, allowed during an operation and never recorded.
 ghost use mathlib.Core.Path.{_≡_};
-ghost use mathlib.Core.Bool.{true, false};
+ghost use mathlib.Core.Bool.{false};
 ghost use Prim.Native.Nat.{_+_, _*_, _<_, _≤_};
 ghost use lib.ListN.{getD};
 ghost use denote.Ref.{ptr};
 ghost use Rattle.model.specs.State.{flash};
 ghost use Rattle.model.specs.Geometry.{pageOf, imagePage, firstWord};
-ghost use Rattle.model.specs.Refusals.{accepts, check, orElse, readyAnswer};
+ghost use Rattle.model.specs.Refusals.{check, orElse};
 ghost use Rattle.model.specs.Checks.{unaligned, pastData};
-ghost use Rattle.model.specs.Valid.{validWith};
 ghost use Rattle.model.specs.Host.{readAnswer, viewAnswer, view};
 ghost use Rattle.registers.specs.Layout.{pagesAt};
 ghost use Rattle.registers.specs.Registers.{standsFor, decode};
 ghost use Rattle.calls.specs.Calls.{toldHostWord, toldStart, hostReadIn, viewIn};
+ghost use Rattle.validity.specs.Ready.{Ready};
 use calls::ToldHostWord;
 use calls::ToldStart;
 use model::Answer;
@@ -43,7 +43,8 @@ fn late_answer(s: &Registers, at: ByteAddress) -> Answer
     read_answer(s, geometry::page_of(at))
 }
 
-fn told_word(answer: Answer, word: u32) -> ToldHostWord
+// What a host read tells.
+pub fn told_word(answer: Answer, word: u32) -> ToldHostWord
     ensures { λ r. ⌜ r ≡ toldHostWord answer word ⌝ }
 {
     let told = calls::told(answer);
@@ -56,7 +57,7 @@ fn told_word(answer: Answer, word: u32) -> ToldHostWord
 
 // A host read of a state that has passed checks 1 to 3.
 pub fn ready_read(s: &Registers, image: &[u32], at: ByteAddress) -> ToldHostWord
-    requires { ⌜ accepts (readyAnswer (validWith (decode (now s)) (flash (now image))) (decode (now s) .phase)) ≡ true ⌝ }
+    requires { ⌜ Ready (now s) (flash (now image)) ⌝ }
     ensures { λ r. ⌜ r ≡ hostReadIn (now (s .entry)) (flash (now (image .entry))) at ⌝ }
 {
     let answer = late_answer(s, at);

@@ -1,11 +1,10 @@
 -- The words of a program that passes checks 5 and 8 lie in one page, so that its rights decide. Assumes nothing.
-use Prim.Native.Nat.{ℕ, _+_, _-_, _*_, _/_, _%_, _≤_, _<_, min}
+use Prim.Native.Nat.{ℕ, _+_, _-_, _*_, _/_, _%_, _≤_}
 use native.Mathlib.Nat.{min-eq-left, min-zero}
 use native.Mathlib.Omega.{arith}
-use mathlib.Core.Path.{_≡_, refl, sym, ap, _∙_}
+use mathlib.Core.Path.{_≡_, refl, sym}
 use mathlib.Core.Bool.{Bool, true, false, _&&_, not, cond}
-use lib.Dec.{ltb, eqb}
-use borrow.Author.Tests.{eqb-true, eqb-false, ne-eqb, not-false, lt-ltb, le-ltb}
+use borrow.Author.Tests.{eqb-true, ne-eqb, not-false, lt-ltb, le-ltb}
 use Rattle.model.specs.Geometry.{pageOf}
 use Rattle.model.specs.Kinds.{isProgram, isBankErase, isPageErase}
 use Rattle.model.specs.Refusals.{accepts, check}

@@ -4,7 +4,7 @@ ghost use mathlib.Core.Path.{_≡_};
 ghost use Prim.Native.Nat.{_+_, _<_, _≤_, _%_};
 ghost use lib.ListN.{getD, set};
 ghost use Rattle.registers.specs.Layout.{pagesAt, phaseAt, defaultAt, regionFrom, pageFrom, permissionAt, movedAt, readsFrom, programsFrom, lostFrom};
-ghost use Rattle.registers.specs.Registers.{phaseOf, inputsAt, regionAt, settingAt, operationAt, workAt, progressAt, queueAt, errorsAt, isOn, regionEncoded, settingEncoded, progressEncoded, plainEncoded, maskOf, flagOf, phaseNumber, putInputs, putRegion, putSetting, putErase, putQueue, putRunning, putErrors, noProgress, cleared};
+ghost use Rattle.registers.specs.Registers.{phaseOf, inputsAt, regionAt, settingAt, operationAt, workAt, progressAt, queueAt, errorsAt, isOn, progressEncoded, plainEncoded, maskOf, flagOf, phaseNumber, putInputs, putRegion, putSetting, putErase, putQueue, putRunning, putErrors, noProgress, cleared};
 use model::ByteAddress;
 use model::Errors;
 use model::Inputs;
@@ -129,39 +129,6 @@ pub fn page_setting(s: &Registers, i: usize) -> PageSetting
     let on = s[at] != 0;
     let rights = (s[at + 1] % 256) as u8;
     PageSetting { on, rights }
-}
-
-// The numbers of a table's row, as they lie.
-pub fn region_flag(s: &Registers, i: usize) -> u32
-    requires { ⌜ i < 8 ⌝ }
-    ensures { λ r. ⌜ r ≡ getD (now (s .entry)) (regionFrom i + 2) 0 ⌝ }
-{
-    let at = REGIONS + 4 * i;
-    s[at + 2]
-}
-
-pub fn region_rights(s: &Registers, i: usize) -> u32
-    requires { ⌜ i < 8 ⌝ }
-    ensures { λ r. ⌜ r ≡ getD (now (s .entry)) (regionFrom i + 3) 0 ⌝ }
-{
-    let at = REGIONS + 4 * i;
-    s[at + 3]
-}
-
-pub fn page_flag(s: &Registers, i: usize) -> u32
-    requires { ⌜ i < 26 ⌝ }
-    ensures { λ r. ⌜ r ≡ getD (now (s .entry)) (pageFrom i) 0 ⌝ }
-{
-    let at = INFO + 2 * i;
-    s[at]
-}
-
-pub fn page_rights(s: &Registers, i: usize) -> u32
-    requires { ⌜ i < 26 ⌝ }
-    ensures { λ r. ⌜ r ≡ getD (now (s .entry)) (pageFrom i + 1) 0 ⌝ }
-{
-    let at = INFO + 2 * i;
-    s[at + 1]
 }
 
 // Whether a bank may be erased.
@@ -293,24 +260,37 @@ pub fn program_count(s: &Registers) -> u32
 
 // ---- whether every number stands for something
 
-pub fn region_encoded(s: &Registers, i: usize) -> bool
+// The flag and the rights of a table's row, as they lie.
+pub fn region_flag(s: &Registers, i: usize) -> u32
     requires { ⌜ i < 8 ⌝ }
-    ensures { λ r. ⌜ r ≡ regionEncoded (now (s .entry)) i ⌝ }
+    ensures { λ r. ⌜ r ≡ getD (now (s .entry)) (regionFrom i + 2) 0 ⌝ }
 {
     let at = REGIONS + 4 * i;
-    let on = s[at + 2] <= 1;
-    let rights = s[at + 3] <= 255;
-    on & rights
+    s[at + 2]
 }
 
-pub fn page_encoded(s: &Registers, i: usize) -> bool
+pub fn region_rights(s: &Registers, i: usize) -> u32
+    requires { ⌜ i < 8 ⌝ }
+    ensures { λ r. ⌜ r ≡ getD (now (s .entry)) (regionFrom i + 3) 0 ⌝ }
+{
+    let at = REGIONS + 4 * i;
+    s[at + 3]
+}
+
+pub fn page_flag(s: &Registers, i: usize) -> u32
     requires { ⌜ i < 26 ⌝ }
-    ensures { λ r. ⌜ r ≡ settingEncoded (now (s .entry)) i ⌝ }
+    ensures { λ r. ⌜ r ≡ getD (now (s .entry)) (pageFrom i) 0 ⌝ }
 {
     let at = INFO + 2 * i;
-    let on = s[at] <= 1;
-    let rights = s[at + 1] <= 255;
-    on & rights
+    s[at]
+}
+
+pub fn page_rights(s: &Registers, i: usize) -> u32
+    requires { ⌜ i < 26 ⌝ }
+    ensures { λ r. ⌜ r ≡ getD (now (s .entry)) (pageFrom i + 1) 0 ⌝ }
+{
+    let at = INFO + 2 * i;
+    s[at + 1]
 }
 
 pub fn progress_encoded(s: &Registers) -> bool

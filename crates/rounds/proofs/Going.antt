@@ -1,21 +1,19 @@
 -- Whether the step of the registers would move a word, and the bank of that word. Assumes nothing.
 use Prim.Native.Nat.{ℕ, _≤_, _<_}
 use mathlib.Core.Path.{_≡_, ap, sym, subst, _∙_}
-use mathlib.Core.Bool.{Bool, true, false, not}
+use mathlib.Core.Bool.{true, false}
 use mathlib.Core.List.{List}
-use lib.Dec.{eqb}
 use lib.ListN.{getD}
-use Rattle.model.specs.Geometry.{pageOf, bankOf, bankOfWord}
+use Rattle.model.specs.Geometry.{bankOfWord}
 use Rattle.model.specs.Places.{totalWords, placeOf}
 use Rattle.model.specs.State.{Flash}
 use Rattle.model.specs.Refusals.{accepts, readyAnswer}
 use Rattle.model.specs.Checks.{outOfRange}
 use Rattle.model.specs.Valid.{valid, validWith}
-use Rattle.model.specs.Steps.{stalls}
 use Rattle.model.specs.Rounds.{goes, wouldMove, progressBank, nextBank, hostBank, competes}
 use Rattle.model.specs.declared.ByteAddress.{ByteAddress}
 use Rattle.model.specs.declared.Work.{Work}
-use Rattle.model.specs.declared.Progress.the-variants.{Idle, Running}
+use Rattle.model.specs.declared.Progress.the-variants.{Running}
 use Rattle.model.specs.declared.Controller.{Controller}
 use Rattle.model.proofs.Moving.{moving, with-valid}
 use Rattle.model.proofs.Accepting.{ready-valid}
@@ -24,31 +22,34 @@ use Rattle.registers.specs.Layout.{pagesAt, movedAt}
 use Rattle.registers.specs.Registers.{operationAt, workAt, progressAt, encoded, standsFor, decode}
 use Rattle.registers.proofs.Kept.{valid-encoded}
 use Rattle.registers.proofs.Lying.{work-lies, operation-lies}
+use Rattle.validity.specs.Ready.{Ready}
 use Rattle.validity.proofs.Taken.{taken-stands}
-use Rattle.rounds.specs.Turns.{Going}
+use Rattle.rounds.specs.Turns.{Going, contends}
 
 -- ---- by the tests that the code makes
 
-module _ (s : List ℕ) (f : Flash) where
-  abbrev ready : Bool
-  ready = accepts (readyAnswer (validWith (decode s) f) (decode s .phase))
+-- Where checks 1 to 3 refuse, the step does not compete.
+pub unready-alone : (s : List ℕ) (f : Flash) (a : ByteAddress) → accepts (readyAnswer (validWith (decode s) f) (decode s .phase)) ≡ false
+    → competes (decode s) f a ≡ false
+unfolding competes wouldMove
+unready-alone s f a h = rw h
 
-  pub unready-stays : ready ≡ false → false ≡ wouldMove (decode s) f
-  unfolding wouldMove
-  unready-stays h = rw h
+-- Where they pass, what lies in the registers decides:
+module _ (s : List ℕ) (f : Flash) (h : Ready s f) where
+  pub ready-stands : decode s ≡ standsFor s
+  ready-stands = taken-stands s (with-valid (decode s) f (ready-valid (validWith (decode s) f) (decode s .phase) h))
 
-  pub ready-stands : ready ≡ true → decode s ≡ standsFor s
-  ready-stands h = taken-stands s (with-valid (decode s) f (ready-valid (validWith (decode s) f) (decode s .phase) h))
-
-  by-progress : ready ≡ true → goes (standsFor s .queues) (progressAt s) ≡ wouldMove (decode s) f
+  -- whether the step would move a word,
+  pub ready-moves : goes (standsFor s .queues) (progressAt s) ≡ wouldMove (decode s) f
   unfolding wouldMove standsFor
-  by-progress h = rw h (ap (λ (c : Controller). goes (c .queues) (c .progress)) (sym (ready-stands h)))
+  ready-moves = rw h (ap (λ (c : Controller). goes (c .queues) (c .progress)) (sym ready-stands))
 
-  pub idle-stays : ready ≡ true → progressAt s ≡ Idle → false ≡ wouldMove (decode s) f
-  idle-stays h e = ap (goes (standsFor s .queues)) (sym e) ∙ by-progress h
-
-  pub work-goes : ready ≡ true → (w : Work) → progressAt s ≡ Running w → not (stalls (standsFor s .queues) w) ≡ wouldMove (decode s) f
-  work-goes h w e = ap (goes (standsFor s .queues)) (sym e) ∙ by-progress h
+  -- and whether it competes with the host.
+  pub ready-competes : (a : ByteAddress) → contends s a ≡ competes (decode s) f a
+  unfolding competes hostBank standsFor
+  ready-competes a =
+      let same : getD s pagesAt 0 ≡ decode s .setup .pages = sym (ap (λ (c : Controller). c .setup .pages) ready-stands) in
+      rw (ready-moves, same)
 
 -- ---- a step that would move a word
 
@@ -91,16 +92,3 @@ module _ {s : List ℕ} (g : Going s) where
       sym (ap (λ (c : Controller). progressBank (c .setup .pages) (c .progress)) going-stands
       ∙ ap (progressBank d) running
       ∙ rw (l .0, l .1))
-
--- ---- host and step in one bank
-
-module _ (s : List ℕ) (f : Flash) (a : ByteAddress) where
-  pub stays-alone : wouldMove (decode s) f ≡ false → false ≡ competes (decode s) f a
-  unfolding competes
-  stays-alone h = rw h
-
-  pub goes-against : wouldMove (decode s) f ≡ true → eqb (bankOf (getD s pagesAt 0) (pageOf a)) (nextBank (decode s)) ≡ competes (decode s) f a
-  unfolding competes hostBank standsFor
-  goes-against h =
-      let same : getD s pagesAt 0 ≡ decode s .setup .pages = sym (ap (λ (c : Controller). c .setup .pages) (going-stands (record { lent = f; moves = h }))) in
-      rw (h, same)

@@ -15,6 +15,7 @@ use Rattle.model.specs.Rounds.{lostIn, wouldMove, nextBank, hostServed, hostUns
 use Rattle.model.specs.declared.ByteAddress.{ByteAddress}
 use Rattle.model.specs.declared.HostTurn.{HostTurn}
 use Rattle.model.specs.declared.Turn.the-variants.{Unasked}
+use Rattle.model.specs.declared.Answer.{Answer}
 use Rattle.model.specs.declared.Controller.{Controller}
 use Rattle.model.proofs.Bool.{and-left}
 use Rattle.model.proofs.Rounds.{would-go, goes-accepted, step-leaves-alone}
@@ -23,17 +24,20 @@ use Rattle.registers.specs.Registers.{decode, put}
 use Rattle.registers.proofs.Kept.{put-back}
 use Rattle.registers.proofs.Lying.{lost-lies, two-counts}
 use Rattle.registers.proofs.Written.{put-lost}
-use Rattle.calls.specs.Calls.{LeftFlash, hostTold, roundLeft, stepIn, hostReadIn}
+use Rattle.calls.specs.Calls.{LeftFlash, hostTold, toldHostWord, roundLeft, stepIn, hostReadIn}
 use Rattle.calls.proofs.Movements.{step-tells}
 use Rattle.calls.specs.declared.ToldStep.{ToldStep}
+use Rattle.calls.specs.declared.ToldHostWord.{ToldHostWord}
 use Rattle.calls.specs.declared.ToldHostTurn.{ToldHostTurn}
 use Rattle.calls.specs.declared.ToldRound.{ToldRound}
-use Rattle.rounds.specs.Turns.{Going, Contested, servedHost, servedStep, unservedHost, unservedStep}
+use Rattle.validity.specs.Ready.{Ready}
+use Rattle.steps.proofs.Left.{step-early}
+use Rattle.host.proofs.Hosted.{read-early}
+use Rattle.rounds.specs.Turns.{Going, Contested, servedHost, servedStep, unservedHost, unservedStep, refusedBoth}
 use Rattle.rounds.proofs.Going.{going-stands, going-encoded}
 
 -- A step that would move has passed checks 1 to 3.
-pub going-ready : (s : List ℕ) (f : Flash) → wouldMove (decode s) f ≡ true
-    → accepts (readyAnswer (validWith (decode s) f) (decode s .phase)) ≡ true
+pub going-ready : (s : List ℕ) (f : Flash) → wouldMove (decode s) f ≡ true → Ready s f
 unfolding wouldMove
 going-ready s f h = and-left _ _ h
 
@@ -59,6 +63,16 @@ left-alone s f = step-beside s f (hostUnserved Unasked)
 pub left-both : (s : List ℕ) (f : Flash) (a : ByteAddress) → beside (servedHost (hostReadIn s f a)) (stepIn s f) ≡ roundLeft s (bothGo (decode s) f a)
 unfolding hostRead hostReadIn
 left-both s f a = step-beside s f (hostServed (hostRead (decode s) f a))
+
+-- Where checks 1 to 3 refuse, both are told so.
+pub left-refused : (s : List ℕ) (f : Flash) (a : ByteAddress) (answer : Answer)
+    → answer ≡ readyAnswer (validWith (decode s) f) (decode s .phase) → accepts answer ≡ false
+    → record { told = refusedBoth answer; registers = s; flash = f } ≡ roundLeft s (bothGo (decode s) f a)
+left-refused s f a answer asked h =
+    let word : toldHostWord answer 0 ≡ hostReadIn s f a = rw asked (read-early s f a (rw asked at h)) in
+    ap (beside (servedHost (toldHostWord answer 0))) (step-early s f answer asked h)
+    ∙ ap (λ (t : ToldHostWord). beside (servedHost t) (stepIn s f)) word
+    ∙ left-both s f a
 
 -- ---- the host alone is served
 

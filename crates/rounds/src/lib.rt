@@ -6,33 +6,32 @@ ghost use lib.Dec.{ltb};
 ghost use lib.ListN.{getD};
 ghost use Rattle.model.specs.State.{flash};
 ghost use Rattle.model.specs.Valid.{lostLimit};
-ghost use Rattle.model.specs.Rounds.{wouldMove, nextBank, competes, hostAlone, stepAlone, hostGoes, stepGoes, contest, bothGo};
+ghost use Rattle.model.specs.Rounds.{goes, wouldMove, nextBank, hostAlone, stepAlone, hostGoes, stepGoes, contest, bothGo};
 ghost use Rattle.registers.specs.Layout.{lostFrom};
-ghost use Rattle.registers.specs.Registers.{decode};
+ghost use Rattle.registers.specs.Registers.{progressAt, standsFor, decode};
 ghost use Rattle.calls.specs.Calls.{roundLeft, roundIn};
-ghost use Rattle.rounds.specs.Turns.{Going, Contested, unservedHost, unservedStep, servedHost, servedStep};
+ghost use Rattle.validity.specs.Ready.{Ready, Judged};
+ghost use Rattle.rounds.specs.Turns.{Going, Contested, contends, unservedHost, unservedStep, servedHost, servedStep, refusedBoth};
 use calls::ToldHostTurn;
 use calls::ToldHostWord;
 use calls::ToldRound;
 use calls::ToldStep;
 use calls::ToldStepTurn;
+use model::Answer;
 use model::ByteAddress;
 use model::HostRequest;
 use model::LOST_LIMIT;
+use model::Movement;
 use model::NO_DECIDER;
 use model::Progress;
 use registers::Registers;
 
 // ---- who competes for a bank
 
-// A step that would wait or be refused does not compete.
-fn would_move(s: &Registers, image: &[u32]) -> bool
-    ensures { λ r. ⌜ r ≡ wouldMove (decode (now (s .entry))) (flash (now (image .entry))) ⌝ }
+// A step that would wait does not compete, nor does one with nothing in progress.
+fn would_move(s: &Registers) -> bool
+    ensures { λ r. ⌜ r ≡ goes (standsFor (now (s .entry)) .queues) (progressAt (now (s .entry))) ⌝ }
 {
-    let ready = validity::ready_with(s, image);
-    if !refusals::accepts(ready) {
-        return false;
-    }
     let progress = registers::progress(s);
     let Progress::Running(work) = progress else {
         return false;
@@ -52,10 +51,11 @@ fn next_bank(s: &Registers) -> u32
     geometry::bank_of_word(d, places::place_of(d, op, moved))
 }
 
-fn competes(s: &Registers, image: &[u32], at: ByteAddress) -> bool
-    ensures { λ r. ⌜ r ≡ competes (decode (now (s .entry))) (flash (now (image .entry))) at ⌝ }
+fn competes(s: &Registers, at: ByteAddress) -> bool
+    requires { ⌜ Judged (now s) ⌝ }
+    ensures { λ r. ⌜ r ≡ contends (now (s .entry)) at ⌝ }
 {
-    if would_move(s, image) {
+    if would_move(s) {
         let host = geometry::bank_of(registers::pages(s), geometry::page_of(at));
         return host == next_bank(s);
     }
@@ -173,14 +173,41 @@ fn contest(s: &mut Registers, image: &mut [u32], at: ByteAddress) -> ToldRound
 
 // Both are served, host first.
 fn both_go(s: &mut Registers, image: &mut [u32], at: ByteAddress) -> ToldRound
+    requires { ⌜ Ready (now s) (flash (now image)) ⌝ }
     ensures { λ r. ⌜ record { told = r; registers = now (s .exit); flash = flash (now (image .exit)) } ≡ roundLeft (now (s .entry)) (bothGo (decode (now (s .entry))) (flash (now (image .entry))) at) ⌝ }
 {
-    let word = host::host_read(s, image, at);
-    let told = steps::step(s, image);
+    let word = host::ready_read(s, image, at);
+    let told = steps::ready_step(s, image);
     ToldRound {
         host: host_served(word),
         step: step_served(told),
     }
+}
+
+// Checks 1 to 3 refuse both.
+fn both_refused(answer: Answer) -> ToldRound
+    ensures { λ r. ⌜ r ≡ refusedBoth answer ⌝ }
+{
+    let word = host::told_word(answer, 0);
+    let told = steps::still(answer, Movement::None);
+    ToldRound {
+        host: host_served(word),
+        step: step_served(told),
+    }
+}
+
+// Both are asked: checks 1 to 3 are made once, for both.
+fn both_asked(s: &mut Registers, image: &mut [u32], at: ByteAddress) -> ToldRound
+    ensures { λ r. ⌜ record { told = r; registers = now (s .exit); flash = flash (now (image .exit)) } ≡ roundIn (now (s .entry)) (flash (now (image .entry))) (HostRequest.Word at) true ⌝ }
+{
+    let ready = validity::ready_with(s, image);
+    if !refusals::accepts(ready) {
+        return both_refused(ready);
+    }
+    if competes(s, at) {
+        return contest(s, image, at);
+    }
+    both_go(s, image, at)
 }
 
 // What the host asks, and whether the step is asked.
@@ -199,8 +226,5 @@ pub fn round(s: &mut Registers, image: &mut [u32], host: HostRequest, step: bool
     if !step {
         return host_alone(s, image, at);
     }
-    if competes(s, image, at) {
-        return contest(s, image, at);
-    }
-    both_go(s, image, at)
+    both_asked(s, image, at)
 }

@@ -36,6 +36,7 @@ use Rattle.registers.proofs.Kept.{put-back, valid-encoded}
 use Rattle.registers.proofs.Written.{put-reads-moving, put-programs-moving, put-progress, put-moved, queue-moved}
 use Rattle.calls.specs.Calls.{LeftFlash, movementNumber, stepLeft, stepIn}
 use Rattle.calls.specs.declared.ToldStep.{ToldStep}
+use Rattle.validity.specs.Ready.{Ready}
 use Rattle.validity.proofs.Taken.{taken-stands}
 use Rattle.steps.specs.Stepping.{Moves, toldMoved, registersMoved}
 
@@ -138,22 +139,20 @@ module _ (s : List ℕ) (f : Flash) (o : Operation) (k : ℕ) where
 
 -- ---- the call
 
-module _ (s : List ℕ) (f : Flash) (answer : Answer) (asked : answer ≡ readyAnswer (validWith (decode s) f) (decode s .phase)) where
+module _ (s : List ℕ) (f : Flash) where
   abbrev still : Answer → ℕ → LeftFlash ToldStep
   still a m = record { told = record { answer = numberOf a; movement = m; bits = 0 }; registers = s; flash = f }
 
   -- Checks 1, 2 and 3 refuse,
-  pub step-early : accepts answer ≡ false → still answer 0 ≡ stepIn s f
+  pub step-early : (answer : Answer) → answer ≡ readyAnswer (validWith (decode s) f) (decode s .phase) → accepts answer ≡ false
+      → still answer 0 ≡ stepIn s f
   unfolding stepIn
-  step-early h =
+  step-early answer asked h =
       let refused : accepts (readyAnswer (validWith (decode s) f) (decode s .phase)) ≡ false = rw asked at h in
       rw (step-unready (decode s) f refused, asked, refused)
 
   -- or pass:
-  module _ (h : accepts answer ≡ true) where
-    passed : accepts (readyAnswer (validWith (decode s) f) (decode s .phase)) ≡ true
-    passed = rw asked at h
-
+  module _ (passed : Ready s f) where
     taken : valid (decode s) ≡ true
     taken = with-valid (decode s) f (ready-valid (validWith (decode s) f) (decode s .phase) passed)
 

@@ -2,12 +2,11 @@
 ghost use mathlib.Core.Path.{_≡_};
 ghost use Prim.Native.Nat.{_+_, _<_};
 ghost use Rattle.model.specs.State.{flash};
-ghost use mathlib.Core.Bool.{true};
-ghost use Rattle.model.specs.Refusals.{numberOf, accepts, readyAnswer};
-ghost use Rattle.model.specs.Valid.{validWith};
+ghost use Rattle.model.specs.Refusals.{numberOf};
 ghost use Rattle.model.specs.Steps.{stalls, advance};
-ghost use Rattle.registers.specs.Registers.{standsFor, decode};
+ghost use Rattle.registers.specs.Registers.{standsFor};
 ghost use Rattle.calls.specs.Calls.{movementNumber, stepLeft, stepIn};
+ghost use Rattle.validity.specs.Ready.{Ready};
 ghost use Rattle.steps.specs.Stepping.{Moves, toldMoved, registersMoved};
 use calls::ToldStep;
 use model::Answer;
@@ -19,7 +18,7 @@ use model::Work;
 use registers::Registers;
 
 // No word moves.
-fn still(answer: Answer, movement: Movement) -> ToldStep
+pub fn still(answer: Answer, movement: Movement) -> ToldStep
     ensures { λ r. ⌜ r ≡ record { answer = numberOf answer; movement = movementNumber movement; bits = 0 } ⌝ }
 {
     let number = calls::number(answer);
@@ -123,7 +122,7 @@ fn advance(s: &mut Registers, image: &mut [u32], w: Work) -> ToldStep
 
 // A step of a state that has passed checks 1 to 3: check 12.
 pub fn ready_step(s: &mut Registers, image: &mut [u32]) -> ToldStep
-    requires { ⌜ accepts (readyAnswer (validWith (decode (now s)) (flash (now image))) (decode (now s) .phase)) ≡ true ⌝ }
+    requires { ⌜ Ready (now s) (flash (now image)) ⌝ }
     ensures { λ r. ⌜ record { told = r; registers = now (s .exit); flash = flash (now (image .exit)) } ≡ stepIn (now (s .entry)) (flash (now (image .entry))) ⌝ }
 {
     let progress = registers::progress(s);

@@ -1,5 +1,5 @@
 -- `host::host_read` meets its contract. Assumes nothing.
-use mathlib.Core.Path.{_≡_, sym, ap, _∙_}
+use mathlib.Core.Path.{sym, _∙_}
 use borrow.Author.Tests.{not-true, not-false}
 use Rattle.model.specs.Refusals.{accepts}
 use Rattle.host.proofs.Hosted.{read-early}

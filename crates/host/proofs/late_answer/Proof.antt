@@ -1,5 +1,5 @@
 -- `host::late_answer` meets its contract. Assumes nothing.
-use mathlib.Core.Path.{_≡_, sym, _∙_}
+use mathlib.Core.Path.{sym, _∙_}
 use Rattle.host.proofs.late_answer.Statement.{statement}
 use Rattle.host.proofs.late_answer.Tie as tie
 
@@ -10,7 +10,16 @@ late-answer-spec =
     (λ c. rw (sym (c .before .unaligned .ensures) ∙ c .if1 .taken))
     (λ c κs. tt)
     (λ c κs. tt)
-    (λ c. rw (sym (c .before .before .before .before .unaligned .ensures) ∙ c .before .before .before .if1 .left, sym (rw (c .before .before .pages .ensures) at (c .before .past-data .ensures)) ∙ c .if2 .taken))
+    (λ c.
+    let d = c .before .before in
+    let aligned = sym (d .before .before .unaligned .ensures) ∙ d .before .if1 .left in
+    let past = rw (d .pages .ensures) at (c .before .past-data .ensures) in
+    rw (aligned, sym past ∙ c .if2 .taken))
     (λ c κs. tt)
     (λ c κs. tt)
-    (λ c. rw (sym (c .before .before .before .before .before .before .unaligned .ensures) ∙ c .before .before .before .before .before .if1 .left, sym (rw (c .before .before .before .before .pages .ensures) at (c .before .before .before .past-data .ensures)) ∙ c .before .before .if2 .left) (rw (c .before .page-of .ensures .0) at (c .read-answer .ensures))))
+    (λ c.
+    let t = c .before .before in
+    let d = t .before .before in
+    let aligned = sym (d .before .before .unaligned .ensures) ∙ d .before .if1 .left in
+    let past = rw (d .pages .ensures) at (t .before .past-data .ensures) in
+    rw (aligned, sym past ∙ t .if2 .left) (rw (c .before .page-of .ensures .0) at (c .read-answer .ensures))))

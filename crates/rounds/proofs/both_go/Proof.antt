@@ -9,12 +9,12 @@ use Rattle.rounds.proofs.both_go.Tie as tie
 pub both-go-spec : {M : Type 1} → statement M
 both-go-spec =
     tie.close (tie.spec
-    (λ c κs. tt)
-    (λ c κs. tt)
+    (λ c κs. c .before .before .before .pre)
+    (λ c κs. c .before .before .before .before .before .before .pre)
     (λ c κs. tt)
     (λ c κs. tt)
     (λ c. search needs)
     (λ c.
     let p = c .before .before .before .before in
-    rw (c .step-served .ensures, c .before .host-served .ensures, p .before .before .before .host-read .ensures)
-    (ap (beside (servedHost _)) (p .step .ensures) ∙ left-both _ _ _)))
+    rw (c .step-served .ensures, c .before .host-served .ensures, p .before .before .before .ready-read .ensures)
+    (ap (beside (servedHost _)) (p .ready-step .ensures) ∙ left-both _ _ _)))

@@ -1,10 +1,8 @@
 -- `rounds::round` meets its contract. Assumes nothing.
-use mathlib.Core.Path.{sym, _∙_}
 use borrow.Author.Needs.{needs}
 use borrow.Author.Tests.{not-true, not-false}
 use Rattle.model.specs.Rounds.{round}
 use Rattle.calls.specs.Calls.{roundIn}
-use Rattle.model.proofs.Rounds.{goes-would, competes-goes}
 use Rattle.rounds.proofs.round.Statement.{statement}
 use Rattle.rounds.proofs.round.Tie as tie
 
@@ -24,25 +22,8 @@ round-spec =
     (λ c. search needs)
     (λ c. rw (c .before .before .before .before .before .host .given .1, not-true (c .before .before .before .before .before .before .before .before .args .step) (c .before .before .before .if2 .taken)) (c .host-alone .ensures))
     (λ c κs. tt)
-    (λ c κs. goes-would _ _ (competes-goes _ _ _ (sym (c .before .before .before .competes .ensures) ∙ c .before .before .if3 .taken)))
     (λ c. search needs)
     (λ c.
-    let i = c .before .before .before .before .before in
-    let n = i .before .before .before .before in
-    rw (
-      n .before .before .host .given .1,
-      not-false (n .before .before .before .before .before .args .step) (n .if2 .left),
-      sym (i .before .competes .ensures) ∙ i .if3 .taken,
-    )
-    (c .before .before .contest .ensures))
-    (λ c κs. tt)
-    (λ c. search needs)
-    (λ c.
-    let i = c .before .before .before .before .before in
-    let n = i .before .before .before .before in
-    rw (
-      n .before .before .host .given .1,
-      not-false (n .before .before .before .before .before .args .step) (n .if2 .left),
-      sym (i .before .competes .ensures) ∙ i .if3 .left,
-    )
-    (c .before .before .both-go .ensures)))
+    let n = c .before .before .before .before .before in
+    rw (n .before .before .host .given .1, not-false (n .before .before .before .before .before .args .step) (n .if2 .left))
+    (c .before .before .both-asked .ensures)))
