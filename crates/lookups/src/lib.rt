@@ -15,6 +15,7 @@ ghost use Rattle.model.specs.State.{pageOff};
 ghost use Rattle.registers.specs.Layout.{defaultAt};
 ghost use Rattle.registers.specs.Registers.{regionsOf, infoOf, settingsOf, inputsAt, errorsAt, standsFor};
 ghost use Rattle.lookups.specs.Answered.{Answered};
+ghost use Rattle.lookups.specs.OnePage.{OnePage};
 use model::Answer;
 use model::ByteAddress;
 use model::Decider;
@@ -160,6 +161,21 @@ fn bank_answer(s: &Registers, o: Operation) -> Answer
     refusals::check(bank_closed(s, bank), Answer::Denied(by))
 }
 
+// Check 9 of a span within one page: what decides that page decides.
+fn page_answer(s: &Registers, o: Operation) -> Answer
+    requires { ⌜ OnePage o ⌝ }
+    ensures { λ r. ⌜ r ≡ check (denied (standsFor (now (s .entry)) .setup) o) (Answer.Denied (deciderOf (standsFor (now (s .entry)) .setup) o)) ⌝ }
+{
+    let information = places::is_information(o);
+    let page = geometry::page_of(places::span_start(o));
+    let ruling = ruling_at(s, information, o.info, page);
+    let by = ruling.decider;
+    refusals::check(
+        !rights::grants(ruling.rights, places::right_needed(o)),
+        Answer::Denied(by),
+    )
+}
+
 // Check 9 of another span: who decides its first denied page is named.
 fn span_answer(s: &Registers, o: Operation) -> Answer
     requires { ⌜ (isBankErase o ≡ false) × (spanWords o < 1048576) ⌝ }
@@ -184,6 +200,10 @@ fn right_answer(s: &Registers, o: Operation) -> Answer
 {
     if places::is_bank_erase(o) {
         return bank_answer(s, o);
+    }
+    let start = places::span_start(o);
+    if start.0 % PAGE_BYTES + 4 * places::span_words(o) <= PAGE_BYTES {
+        return page_answer(s, o);
     }
     span_answer(s, o)
 }

@@ -47,12 +47,15 @@ count-bound o h k =
     (omega (arith, some), few)
 
 -- So has every operation but a bank erase, with the 256 of a page erase.
-pub span-words-le : (o : Operation) → malformed o ≡ false → isBankErase o ≡ false → spanWords o ≤ maxCount
-span-words-le o h n =
-    by-test (isPageErase o) (λ e. rw e (omega arith))
+pub span-words-bound : (o : Operation) → malformed o ≡ false → isBankErase o ≡ false → (1 ≤ spanWords o) × (spanWords o ≤ maxCount)
+span-words-bound o h n =
+    by-test (isPageErase o) (λ e. rw e (omega arith, omega arith))
     (λ e.
     let moves : o .kind < 2 = omega (arith, well-formed o h .kind, eqb-false (o .kind) 2 e, eqb-false (o .kind) 3 n) in
-    rw e (count-bound o h moves .1))
+    rw e (count-bound o h moves))
+
+pub span-words-le : (o : Operation) → malformed o ≡ false → isBankErase o ≡ false → spanWords o ≤ maxCount
+span-words-le o h n = span-words-bound o h n .1
 
 -- Check 5 accepts what is not malformed.
 pub formed : (malformed : Bool) → accepts (check malformed Malformed) ≡ not malformed

@@ -10,7 +10,7 @@ use Rattle.model.proofs.Answers.{check-passed}
 use Rattle.model.proofs.Bool.{and-left, and-right}
 use Rattle.registers.specs.Layout.{pagesAt}
 use Rattle.registers.specs.Registers.{standsFor}
-use Rattle.lookups.proofs.OnePage.{one-page, form-refused, by-grant}
+use Rattle.lookups.proofs.OnePage.{program-denied, form-refused, by-grant}
 use Rattle.lookups.proofs.program_fits.Statement.{statement}
 use Rattle.lookups.proofs.program_fits.Tie as tie
 
@@ -60,7 +60,7 @@ returns-4 c =
     let k = asked (r .before .before .before) (r .before .before .if1 .left) in
     let one = sym (w .crosses-window .ensures) ∙ c .before .before .if3 .left in
     let g = rw (c .before .page-of .ensures .0) at (c .page-grants .ensures) in
-    rw (k .0, k .1, sym (outside r) ∙ w .before .if2 .left, one, one-page _ (k .0) (k .1) one _) (g ∙ by-grant _ _ refl)
+    rw (k .0, k .1, sym (outside r) ∙ w .before .if2 .left, one, program-denied _ (k .0) (k .1) one _) (g ∙ by-grant _ _ refl)
 
 pub program-fits-spec : {M : Type 1} → statement M
 program-fits-spec =

@@ -1,6 +1,8 @@
 -- `rounds::would_move` meets its contract. Assumes nothing.
-use mathlib.Core.Path.{sym, _∙_}
+use mathlib.Core.Path.{ap, sym, _∙_}
+use mathlib.Core.Bool.{not}
 use borrow.Author.Needs.{needs}
+use Rattle.model.specs.Rounds.{goes}
 use Rattle.rounds.proofs.would_move.Statement.{statement}
 use Rattle.rounds.proofs.would_move.Tie as tie
 
@@ -14,4 +16,4 @@ would-move-spec =
     (λ c κs. tt)
     (λ c.
     let p = c .before .before .before .before in
-    rw (c .stalls .ensures, sym (p .progress .ensures) ∙ c .before .before .progress2 .given .1)))
+    ap not (c .stalls .ensures) ∙ ap (goes _) (sym (c .before .before .progress2 .given .1) ∙ p .progress .ensures)))
