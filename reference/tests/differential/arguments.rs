@@ -2,8 +2,8 @@
 
 use crate::calls::AskedInRound;
 use crate::layout::{
-    bank, next_address, pages_of_type, DATA_PAGES, INFO_PAGES, MOST_WORDS, PAGE_BYTES, PAGE_WORDS,
-    WORD_BYTES,
+    bank, beside_the_border, next_address, pages_of_type, DATA_PAGES, INFO_PAGES, MOST_WORDS,
+    PAGE_BYTES, PAGE_WORDS, WORD_BYTES,
 };
 use crate::pages::denier;
 use crate::rng::Rng;
@@ -13,6 +13,8 @@ use std::ops::Range;
 
 /// Of a hundred operations, so many are reads over a denied page, if there is one.
 const READS_OVER_A_DENIED_PAGE: u32 = 8;
+/// And so many are data reads at the bank border.
+const READS_AT_THE_BORDER: u32 = 3;
 
 /// Draws arguments that suit a state.
 pub struct Arguments<'a> {
@@ -236,9 +238,44 @@ impl Arguments<'_> {
     // -- operations ----------------------------------------------------------
 
     pub fn operation(&mut self) -> flat::Operation {
-        let over_denied_page = self.rng.percent(READS_OVER_A_DENIED_PAGE);
-        let read = over_denied_page.then(|| self.read_over_a_denied_page());
-        read.flatten().unwrap_or_else(|| self.any_operation())
+        let read = if self.rng.percent(READS_OVER_A_DENIED_PAGE) {
+            self.read_over_a_denied_page()
+        } else if self.rng.percent(READS_AT_THE_BORDER) {
+            Some(self.read_at_the_border())
+        } else {
+            None
+        };
+        read.unwrap_or_else(|| self.any_operation())
+    }
+
+    /// A data read that ends at the bank border, begins at it or runs over it.
+    fn read_at_the_border(&mut self) -> flat::Operation {
+        let border = self.data_pages() * PAGE_WORDS;
+        let (before, past) = match self.rng.below(6) {
+            0 => (self.words_beside_the_border(), 0),
+            1 => (0, self.words_beside_the_border()),
+            _ => (
+                self.words_beside_the_border(),
+                self.words_beside_the_border(),
+            ),
+        };
+        flat::Operation {
+            address: border.saturating_sub(before) * WORD_BYTES,
+            count: before + past,
+            kind: flat::READ,
+            ..flat::Operation::default()
+        }
+    }
+
+    /// Mostly few, at most half of the longest read.
+    fn words_beside_the_border(&mut self) -> u32 {
+        let few = self.rng.between(1, 6);
+        match self.rng.below(12) {
+            0 => PAGE_WORDS,
+            1 => PAGE_WORDS + few,
+            2 => MOST_WORDS / 2,
+            _ => few,
+        }
     }
 
     /// A read of up to five pages whose first denied one is at any place among
@@ -296,13 +333,14 @@ impl Arguments<'_> {
         }
     }
 
-    /// The pages, one beside the other, that a read of this partition and type can have.
+    /// The pages, one beside the other, that a read of this partition and type can have, or those of the bank border.
     fn pages_beside(&mut self, read: &flat::Operation) -> Option<Range<u32>> {
         let d = self.state.data_pages;
         if !DATA_PAGES.contains(&d) {
             return None;
         }
         Some(match read.partition {
+            flat::DATA if self.rng.percent(50) => beside_the_border(d),
             flat::DATA => 0..2 * d,
             _ => {
                 let bank = self.rng.below(2) * d;

@@ -20,6 +20,8 @@ const EPISODES_PER_SWEPT_D: u64 = 3;
 /// One episode in so many, an odd number for two workers, runs bank erases by steps to their end.
 const EPISODES_PER_LONG_ONE: u64 = 121;
 const LONG_LENGTH: u32 = 10_000;
+/// One episode in so many, an odd number as well, runs whole operations.
+const EPISODES_PER_WHOLE_ONE: u64 = 25;
 /// The rhythm of steps against pushes or pops changes about every so many turns.
 const TURNS_PER_RHYTHM: u32 = 40;
 /// Weights of steps and of pushes or pops.
@@ -32,6 +34,8 @@ enum Mode {
     Mixed,
     /// Bank erases run to their end, nearly undisturbed.
     BankErases,
+    /// Whole operations between settings.
+    WholeOperations,
 }
 
 /// What a run is in the middle of.
@@ -127,6 +131,10 @@ impl Generator {
         } else if episode < SWEEP {
             let start = states::valid(&mut rng, data_pages);
             (Mode::Mixed, start, SWEEP_LENGTH)
+        } else if episode.is_multiple_of(EPISODES_PER_WHOLE_ONE) {
+            let few_pages = rng.pick(&SMALL_DATA_PAGES);
+            let start = states::valid(&mut rng, few_pages);
+            (Mode::WholeOperations, start, rng.between(100, 600))
         } else {
             let start = states::any(&mut rng, data_pages);
             (Mode::Mixed, start, rng.between(100, 600))
@@ -146,6 +154,7 @@ impl Generator {
         match self.mode {
             Mode::Mixed => self.mixed_turn(bench),
             Mode::BankErases => self.bank_erase_turn(bench),
+            Mode::WholeOperations => self.whole_operation_turn(bench),
         }
     }
 
@@ -210,6 +219,23 @@ impl Generator {
             writes: Vec::new(),
             call: Call::Start { operation },
         }
+    }
+
+    /// A controller that cannot take a whole operation goes on as in any episode.
+    fn whole_operation_turn(&mut self, bench: &Bench) -> Turn {
+        let idle = situation(bench.state()) == Situation::Idle;
+        if !idle || bench.flat().read_queue.length > 0 {
+            return self.mixed_turn(bench);
+        }
+        let choice = match self.rng.below(20) {
+            0 | 1 => Choice::Region,
+            2 => Choice::InfoPage,
+            3 => self
+                .rng
+                .pick(&[Choice::DefaultRights, Choice::BankErase, Choice::Inputs]),
+            _ => Choice::Run,
+        };
+        self.turn_after(bench, Vec::new(), choice)
     }
 
     fn choice(&mut self, state: Option<&Controller>) -> Choice {

@@ -58,6 +58,11 @@ pub fn bank(data_pages: u32, address: u32) -> usize {
     usize::from(address / PAGE_BYTES >= data_pages)
 }
 
+/// The data pages beside the bank border, three in each bank.
+pub fn beside_the_border(data_pages: u32) -> Range<u32> {
+    data_pages - 3..data_pages + 3
+}
+
 /// An address in the bank of the next word of what is in progress; an erase stays in its bank.
 pub fn next_address(progress: &Progress) -> u32 {
     let operation = &progress.operation;

@@ -2,7 +2,7 @@
 //! there before it.
 
 use crate::calls::{Call, Outcome};
-use crate::layout::{bank, next_address, MOST_DATA_PAGES, PAGE_BYTES, WORD_BYTES};
+use crate::layout::{bank, next_address, MOST_DATA_PAGES, PAGE_BYTES, PAGE_WORDS, WORD_BYTES};
 use crate::pages::{
     allows, closed, denier, deniers_of_read, holding, readable_words, right, rights, setting, span,
     CREATOR_PAGE, OWNER_PAGE,
@@ -24,7 +24,7 @@ pub struct Met<'a> {
 
 type Situation = (&'static str, fn(&Met) -> bool);
 
-pub const SITUATIONS: [Situation; 80] = [
+pub const SITUATIONS: [Situation; 105] = [
     ("overlapping regions with other rights", |met| {
         let page = met.page();
         met.judged() && page.is_some_and(|page| overlap(met.before, page))
@@ -45,12 +45,12 @@ pub const SITUATIONS: [Situation; 80] = [
         met.answer(0) && program.is_some_and(|o| (o.address + 4 * o.count) % 64 == 0)
     }),
     ("whole read of 1,024 words", |met| {
-        let whole = matches!(met.call, Call::Run { .. });
-        whole && met.answer(0) && met.operation(flat::READ).is_some_and(|o| o.count == 1024)
+        met.is_whole()
+            && met.answer(0)
+            && met.operation(flat::READ).is_some_and(|o| o.count == 1024)
     }),
     ("whole operation with a word queued", |met| {
-        let whole = matches!(met.call, Call::Run { .. });
-        whole && met.answer(4) && met.before.progress.running == 0
+        met.is_whole() && met.answer(4) && met.before.progress.running == 0
     }),
     ("start with words in the read queue", |met| {
         let start = matches!(met.call, Call::Start { .. });
@@ -159,7 +159,30 @@ pub const SITUATIONS: [Situation; 80] = [
         told.step_turn == flat::TURN_UNASKED && met.host_served() && met.lost_five(met.host_bank())
     }),
     ("both banks served in a round", |met| {
-        met.host_served() && met.moved_in_round()
+        met.served_beside_a_step(0)
+    }),
+    ("both banks served, host read refused 5", |met| {
+        met.served_beside_a_step(5)
+    }),
+    ("both banks served, host read refused 7", |met| {
+        met.served_beside_a_step(7)
+    }),
+    ("both banks served, host read refused 9", |met| {
+        met.served_beside_a_step(9)
+    }),
+    ("round of both in a broken state", |met| {
+        met.both_asked() && met.broken() && met.image_words() == Some(met.right())
+    }),
+    ("round of both with a wrong image", |met| {
+        let wrong = met.image_words() != Some(met.right());
+        let running = met.before.progress.running == 1;
+        met.both_asked() && met.broken() && met.writes == 0 && running && wrong
+    }),
+    ("round of both while disabled", |met| {
+        met.both_asked() && met.answer(2)
+    }),
+    ("round of both while uninitialised", |met| {
+        met.both_asked() && met.answer(3)
     }),
     ("stalled step beside a host in its bank", |met| {
         let stalled = met.outcome.round.movement == flat::MOVEMENT_STALLED;
@@ -223,8 +246,7 @@ pub const SITUATIONS: [Situation; 80] = [
         start && met.cut(|cut| cut.readable > 0)
     }),
     ("whole read of readable words, then ones", |met| {
-        let whole = matches!(met.call, Call::Run { .. });
-        whole && met.cut(|cut| cut.readable > 0)
+        met.is_whole() && met.cut(|cut| cut.readable > 0)
     }),
     ("read denied at its first of several pages", |met| {
         met.cut(|cut| cut.pages_before() == 0 && cut.over_pages())
@@ -312,6 +334,60 @@ pub const SITUATIONS: [Situation; 80] = [
         let finished = met.outcome.movement == flat::MOVEMENT_FINISHED;
         finished && met.moves_of_denied_read(|p| p.readable > 0 && met.stepped == Some(p.moved))
     }),
+    ("whole read over the bank border", |met| {
+        met.whole_read(0, |begin, end| begin < 0 && end > 0)
+    }),
+    ("whole read with one word before the border", |met| {
+        met.whole_read(0, |begin, end| begin == -1 && end > 0)
+    }),
+    ("whole read with one word past the border", |met| {
+        met.whole_read(0, |begin, end| begin < 0 && end == 1)
+    }),
+    ("whole read that ends at the bank border", |met| {
+        met.whole_read(0, |_, end| end == 0)
+    }),
+    ("whole read that begins at the bank border", |met| {
+        met.whole_read(0, |begin, _| begin == 0)
+    }),
+    ("whole read over the border, cut before it", |met| {
+        met.whole_read_cut(|page, bank_1| page < bank_1)
+    }),
+    ("whole read over the border, cut at it", |met| {
+        met.whole_read_cut(|page, bank_1| page == bank_1)
+    }),
+    ("whole read over the border, cut past it", |met| {
+        met.whole_read_cut(|page, bank_1| page > bank_1)
+    }),
+    ("whole read in bank 1", |met| {
+        met.whole(flat::READ, flat::DATA, 1)
+    }),
+    ("whole program in bank 1", |met| {
+        met.whole(flat::PROGRAM, flat::DATA, 1)
+    }),
+    ("whole page erase in bank 1", |met| {
+        met.whole(flat::PAGE_ERASE, flat::DATA, 1)
+    }),
+    ("whole information read in bank 1", |met| {
+        met.whole(flat::READ, flat::INFORMATION, 1)
+    }),
+    ("whole information program in bank 1", |met| {
+        met.whole(flat::PROGRAM, flat::INFORMATION, 1)
+    }),
+    ("whole information page erase in bank 1", |met| {
+        met.whole(flat::PAGE_ERASE, flat::INFORMATION, 1)
+    }),
+    ("data of bank 0 erased whole", |met| {
+        met.whole(flat::BANK_ERASE, flat::DATA, 0)
+    }),
+    ("data of bank 1 erased whole", |met| {
+        met.whole(flat::BANK_ERASE, flat::DATA, 1)
+    }),
+    ("all of bank 0 erased whole", |met| {
+        met.whole(flat::BANK_ERASE, flat::INFORMATION, 0)
+    }),
+    ("all of bank 1 erased whole", |met| {
+        met.whole(flat::BANK_ERASE, flat::INFORMATION, 1)
+    }),
 ];
 
 /// A read that is denied past 5 and 7.
@@ -338,6 +414,10 @@ impl Met<'_> {
         self.outcome.answer == number
     }
 
+    fn is_whole(&self) -> bool {
+        matches!(self.call, Call::Run { .. })
+    }
+
     /// The rights were looked at.
     fn judged(&self) -> bool {
         self.answer(0) || self.answer(9)
@@ -353,6 +433,32 @@ impl Met<'_> {
 
     fn asked(&self, is: impl Fn(&Operation) -> bool) -> bool {
         self.call.operation().as_ref().is_some_and(is)
+    }
+
+    /// A whole operation is accepted in a bank.
+    fn whole(&self, kind: u32, partition: u32, number: usize) -> bool {
+        let there = |o: &Operation| bank(self.before.data_pages, o.address) == number;
+        let operation = self.operation(kind).filter(|o| o.partition == partition);
+        self.is_whole() && self.answer(0) && operation.as_ref().is_some_and(there)
+    }
+
+    /// Where a whole data read with this answer begins and ends, in words from the bank border.
+    fn whole_read(&self, answer: u32, is: impl Fn(i64, i64) -> bool) -> bool {
+        let read = self.operation(flat::READ);
+        let read = read.filter(|o| self.is_whole() && o.partition == flat::DATA);
+        self.answer(answer)
+            && read.is_some_and(|read| {
+                let border = i64::from(self.before.data_pages * PAGE_WORDS);
+                let begin = i64::from(read.address / WORD_BYTES) - border;
+                is(begin, begin + i64::from(read.count))
+            })
+    }
+
+    /// A whole read over the bank border is cut at such a page; the other is bank 1's first.
+    fn whole_read_cut(&self, is: impl Fn(u32, u32) -> bool) -> bool {
+        let bank_1 = self.before.data_pages;
+        let over = self.whole_read(9, |begin, end| begin < 0 && end > 0);
+        over && self.cut(|cut| cut.readable > 0 && is(cut.page, bank_1))
     }
 
     /// The first and the last page of a data read.
@@ -492,10 +598,24 @@ impl Met<'_> {
         self.host_waits() || self.step_waits()
     }
 
+    fn both_asked(&self) -> bool {
+        let told = &self.outcome.round;
+        ![told.host_turn, told.step_turn].contains(&flat::TURN_UNASKED)
+    }
+
     /// The host was given its word.
     fn host_served(&self) -> bool {
+        self.host_answered(0)
+    }
+
+    fn host_answered(&self, answer: u32) -> bool {
         let told = &self.outcome.round;
-        told.host_turn == flat::TURN_SERVED && told.host_answer == 0
+        told.host_turn == flat::TURN_SERVED && told.host_answer == answer
+    }
+
+    /// The host was answered so, and a word moved in the other bank.
+    fn served_beside_a_step(&self, answer: u32) -> bool {
+        self.host_answered(answer) && self.moved_in_round()
     }
 
     fn moved_in_round(&self) -> bool {

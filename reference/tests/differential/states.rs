@@ -3,7 +3,7 @@
 
 use crate::arguments::Arguments;
 use crate::bench::{Start, Write};
-use crate::layout::{words_to_move, MOST_DATA_PAGES, PAGE_BYTES};
+use crate::layout::{beside_the_border, words_to_move, MOST_DATA_PAGES, PAGE_BYTES};
 use crate::pages::readable_words;
 use crate::rng::Rng;
 use reference::interface::{fields, flat};
@@ -111,8 +111,13 @@ fn legal_rights(rng: &mut Rng) -> u32 {
     }
 }
 
+/// It often begins beside the bank border.
 fn legal_region(rng: &mut Rng, c: &flat::Controller) -> flat::Region {
-    let first_page = rng.below(2 * c.data_pages + 1);
+    let beside = beside_the_border(c.data_pages);
+    let first_page = match rng.below(4) {
+        0 => rng.between(beside.start, beside.end - 1),
+        _ => rng.below(2 * c.data_pages + 1),
+    };
     let room = 2 * c.data_pages - first_page;
     let page_count = match rng.below(3) {
         0 => rng.below(room + 1),

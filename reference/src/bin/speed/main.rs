@@ -38,21 +38,29 @@ second: the second program, compiled with cargo's release profile. It runs a who
 plain: plain Rust with the same checks, made once in a call; a whole operation moves
   its words page by page. Compiled like the second program.
 A pass does the operation at every place of the data pages, one after the other
-  (a bank erase at both banks), on each program; they take turns to go first.
+  (a bank erase at both banks), on each program; they take turns to go first. Two reads
+  have one place and are done there 32 times, each into its own part of the buffer: that
+  in both banks, with 512 words in each, and the half denied one, whose last 512 words
+  a region denies. That one is answered 9 and gives ones for them.
 Before each pass, outside the timed part: flash of mixed words for reads, erased for
   programs, programmed to zeros for erases; a controller that is ready, with all
-  rights by default and no region on; a buffer with a part for every operation,
-  cleared for reads, of mixed words for programs, empty for erases; and the whole
-  pass once untimed, on copies.
-Rounds go through a data bank erase: with its steps alone, or with a host that asks for
-  the same bank each time and wins five rounds of six.
-After each pass, asserted: answers, bits, buffer, image and state are the same.";
+  rights by default and no region on but the one that denies; a buffer with a part for
+  every operation, cleared for reads, of mixed words for programs, empty for erases; and
+  the whole pass once untimed, on copies.
+Rounds go through a data bank erase: with its steps alone, with a host that asks for
+  the same bank each time and wins five rounds of six, or with one that asks for the
+  other bank, where both are served in every round.
+After each pass, asserted: answers, bits, buffer, image and state, the record of errors
+  with it, are the same.";
 
-/// Ready, with every right given and no region on.
-fn ready(data_pages: u32, image: &[u32]) -> Controller {
+/// Ready, with every right given by default, and the row's region on if it has one.
+fn ready(work: &Work, image: &[u32]) -> Controller {
     let mut c = Controller::default();
-    model::reset(&mut c, data_pages);
+    model::reset(&mut c, work.data_pages);
     model::set_default_rights(&mut c, ALL_RIGHTS);
+    if let Some(region) = work.denying_region() {
+        model::set_region(&mut c, 0, region);
+    }
     for bank in 0..BANKS as u32 {
         model::set_bank_erase_permission(&mut c, bank, true);
     }
@@ -63,7 +71,7 @@ fn ready(data_pages: u32, image: &[u32]) -> Controller {
 /// One pass: all programs from the same start, and all they leave compared.
 fn pass(work: &Work, number: usize) -> [Duration; PROGRAMS] {
     let memory = memory(work);
-    let controller = ready(work.data_pages, &memory.image);
+    let controller = ready(work, &memory.image);
     let run = |program| -> (Duration, Left) {
         match program {
             0 => timed(Model(from_reference(&controller)), work, &memory),
@@ -120,9 +128,9 @@ fn main() {
             &operations.to_string(),
             &passes.len().to_string(),
             per,
-            &format!("{model:.1}"),
-            &format!("{second:.1}"),
-            &format!("{plain:.1}"),
+            &three_digits(model),
+            &three_digits(second),
+            &three_digits(plain),
             &three_digits(model / second),
             &three_digits(model / plain),
         ]);
@@ -139,9 +147,9 @@ fn print_row(columns: [&str; 10]) {
     );
 }
 
-/// A ratio with three significant digits.
-fn three_digits(ratio: f64) -> String {
-    let before_the_point = ratio.log10().floor() as i32 + 1;
+/// Three significant digits.
+fn three_digits(number: f64) -> String {
+    let before_the_point = number.log10().floor() as i32 + 1;
     let decimals = (3 - before_the_point).max(0) as usize;
-    format!("{ratio:.decimals$}")
+    format!("{number:.decimals$}")
 }

@@ -3,8 +3,8 @@
 use crate::programs::Program;
 use reference::interface::flat;
 use reference::model::{
-    self, Operation, BANKS, BANK_ERASE, DATA, INFORMATION, ONES, PAGE_BYTES, PAGE_ERASE, PROGRAM,
-    READ, WORD_BYTES,
+    self, Operation, Region, ALL_RIGHTS, BANKS, BANK_ERASE, DATA, DENIED, INFORMATION, NONE, ONES,
+    PAGE_BYTES, PAGE_ERASE, PROGRAM, READ, RIGHT_READ, WORD_BYTES,
 };
 use std::time::{Duration, Instant};
 
@@ -19,6 +19,19 @@ pub enum By {
     LoneRounds,
     /// Start, then rounds in which the host asks for the same bank.
     Contests,
+    /// Start, then for every word a round in which the host asks for the other bank.
+    SharedRounds,
+}
+
+/// Where a row's operation is done.
+#[derive(Clone, Copy, PartialEq, Eq)]
+pub enum At {
+    /// At every place of the data pages in turn.
+    EveryPlace,
+    /// With half of its words in each bank, again and again.
+    Border,
+    /// With its second half denied, again and again.
+    DeniedHalf,
 }
 
 /// What a row's time is divided by.
@@ -28,12 +41,13 @@ pub enum Per {
     Call,
 }
 
-/// A row of the table: one operation, done at every place of the data pages in turn.
+/// A row of the table: one operation, done at several places or at one several times.
 pub struct Work {
     pub name: &'static str,
     pub by: By,
     pub per: Per,
     pub data_pages: u32,
+    pub at: At,
     pub operation: Operation,
 }
 
@@ -47,30 +61,73 @@ impl Work {
     pub fn calls(&self) -> u64 {
         match self.by {
             By::Whole | By::HostRead => 1,
-            By::Parts | By::LoneRounds => self.words(),
+            By::Parts | By::LoneRounds | By::SharedRounds => self.words(),
             By::Contests => ROUNDS_PER_WORD * self.words(),
         }
     }
 
     /// The byte addresses at which the operation is done, one after the other.
     pub fn addresses(&self) -> Vec<u32> {
-        let bank_bytes = u64::from(self.data_pages) * PAGE_BYTES;
+        match self.at {
+            At::EveryPlace => self.every_place(),
+            At::Border => vec![self.bank_bytes() - self.bytes() / 2; TIMES],
+            At::DeniedHalf => vec![0; TIMES],
+        }
+    }
+
+    fn every_place(&self) -> Vec<u32> {
         let stride = match self.operation.kind {
-            BANK_ERASE => bank_bytes,
-            _ => self.words() * WORD_BYTES,
+            BANK_ERASE => self.bank_bytes(),
+            _ => self.bytes(),
         };
-        let places = BANKS * bank_bytes / stride;
-        (0..places).map(|i| (i * stride) as u32).collect()
+        let places = BANKS as u32 * self.bank_bytes() / stride;
+        (0..places).map(|i| i * stride).collect()
+    }
+
+    /// The bytes of one operation's words.
+    fn bytes(&self) -> u32 {
+        (self.words() * WORD_BYTES) as u32
+    }
+
+    /// The byte addresses of one bank.
+    fn bank_bytes(&self) -> u32 {
+        self.data_pages * PAGE_BYTES as u32
+    }
+
+    /// The same place in the other bank.
+    fn in_other_bank(&self, address: u32) -> u32 {
+        (address + self.bank_bytes()) % (BANKS as u32 * self.bank_bytes())
+    }
+
+    /// The region that denies a part of the operation, if one does.
+    pub fn denying_region(&self) -> Option<Region> {
+        let half = self.bytes() / 2 / PAGE_BYTES as u32;
+        (self.at == At::DeniedHalf).then_some(Region {
+            on: true,
+            first_page: half,
+            page_count: half,
+            rights: ALL_RIGHTS & !RIGHT_READ,
+        })
+    }
+
+    /// What every call of the row answers.
+    fn answer(&self) -> u32 {
+        match self.at {
+            At::EveryPlace | At::Border => NONE.into(),
+            At::DeniedHalf => DENIED.into(),
+        }
     }
 }
 
 /// The host wins five, then a word moves.
 const ROUNDS_PER_WORD: u64 = 6;
+/// How often an operation is done that has one place.
+const TIMES: usize = 32;
 
 type Line = (&'static str, By, u8, u8, u32);
 
 /// Parts and whole operations by the word.
-const BY_WORD: [Line; 8] = [
+const BY_WORD: [Line; 9] = [
     (
         "read of 1,024 words: start, step, pop",
         By::Parts,
@@ -86,6 +143,7 @@ const BY_WORD: [Line; 8] = [
         16,
     ),
     ("page erase: start, step", By::Parts, PAGE_ERASE, DATA, 0),
+    ("whole read of 256 words", By::Whole, READ, DATA, 256),
     ("whole read of 1,024 words", By::Whole, READ, DATA, 1_024),
     ("whole program of 16 words", By::Whole, PROGRAM, DATA, 16),
     ("whole page erase", By::Whole, PAGE_ERASE, DATA, 0),
@@ -99,6 +157,24 @@ const BY_WORD: [Line; 8] = [
     ),
 ];
 
+/// The words lie half in each bank.
+const BOTH_BANKS: [Line; 1] = [(
+    "whole read of 1,024 words, both banks",
+    By::Whole,
+    READ,
+    DATA,
+    1_024,
+)];
+
+/// The second half of the words is denied.
+const HALF_DENIED: [Line; 1] = [(
+    "whole read of 1,024 words, half denied",
+    By::Whole,
+    READ,
+    DATA,
+    1_024,
+)];
+
 /// The calls of one word; a start is a 4,096th, a 1,024th or a 16th of them.
 const WORD_CALLS: [Line; 3] = [
     ("erase step", By::Parts, BANK_ERASE, DATA, 0),
@@ -106,7 +182,7 @@ const WORD_CALLS: [Line; 3] = [
     ("push + step, 1/16 of a start", By::Parts, PROGRAM, DATA, 16),
 ];
 
-const CALLS: [Line; 9] = [
+const CALLS: [Line; 11] = [
     ("host read", By::HostRead, READ, DATA, 1),
     ("round, step alone", By::LoneRounds, BANK_ERASE, DATA, 0),
     (
@@ -116,8 +192,16 @@ const CALLS: [Line; 9] = [
         DATA,
         0,
     ),
+    (
+        "round, host and step in two banks",
+        By::SharedRounds,
+        BANK_ERASE,
+        DATA,
+        0,
+    ),
     ("whole read of 1 word", By::Whole, READ, DATA, 1),
     ("whole read of 16 words", By::Whole, READ, DATA, 16),
+    ("whole read of 256 words", By::Whole, READ, DATA, 256),
     ("whole read of 1,024 words", By::Whole, READ, DATA, 1_024),
     ("whole program of 1 word", By::Whole, PROGRAM, DATA, 1),
     ("whole program of 16 words", By::Whole, PROGRAM, DATA, 16),
@@ -126,16 +210,20 @@ const CALLS: [Line; 9] = [
 
 pub fn rows() -> Vec<Work> {
     let tables = [
-        (Per::Word, 16, &BY_WORD[..]),
-        (Per::Word, 256, &BY_WORD[..]),
-        (Per::Word, 16, &WORD_CALLS[..]),
-        (Per::Call, 16, &CALLS[..]),
+        (Per::Word, 16, At::EveryPlace, &BY_WORD[..]),
+        (Per::Word, 16, At::Border, &BOTH_BANKS[..]),
+        (Per::Word, 16, At::DeniedHalf, &HALF_DENIED[..]),
+        (Per::Word, 256, At::EveryPlace, &BY_WORD[..]),
+        (Per::Word, 256, At::Border, &BOTH_BANKS[..]),
+        (Per::Word, 16, At::EveryPlace, &WORD_CALLS[..]),
+        (Per::Call, 16, At::EveryPlace, &CALLS[..]),
     ];
-    let row = |per, data_pages, (name, by, kind, partition, count): Line| Work {
+    let row = |per, data_pages, at, (name, by, kind, partition, count): Line| Work {
         name,
         by,
         per,
         data_pages,
+        at,
         operation: Operation {
             kind,
             partition,
@@ -145,7 +233,7 @@ pub fn rows() -> Vec<Work> {
     };
     tables
         .iter()
-        .flat_map(|&(per, d, table)| table.iter().map(move |&line| row(per, d, line)))
+        .flat_map(|&(per, d, at, table)| table.iter().map(move |&line| row(per, d, at, line)))
         .collect()
 }
 
@@ -306,6 +394,10 @@ fn done(mut program: impl Program, work: &Work, mut memory: Memory) -> (Duration
             By::HostRead => host_read(&program, address, image, buffer),
             By::LoneRounds => in_rounds(&mut program, operation, None, calls, image),
             By::Contests => in_rounds(&mut program, operation, Some(address), calls, image),
+            By::SharedRounds => {
+                let host = work.in_other_bank(address);
+                in_rounds(&mut program, operation, Some(host), calls, image)
+            }
         });
     }
     let time = begun.elapsed();
@@ -320,15 +412,18 @@ fn done(mut program: impl Program, work: &Work, mut memory: Memory) -> (Duration
     )
 }
 
-/// Nothing was refused, parts and rounds finished with the last word, and an erase of zeros changed every bit.
+/// All answered as they should, parts and rounds finished with the last word, and an erase of zeros changed every bit.
 pub fn assert_all_done(work: &Work, told: &[Told]) {
     let finished_at = match work.by {
-        By::Parts | By::LoneRounds | By::Contests => work.calls(),
+        By::Parts | By::LoneRounds | By::Contests | By::SharedRounds => work.calls(),
         By::Whole | By::HostRead => 0,
     };
     let erases = matches!(work.operation.kind, PAGE_ERASE | BANK_ERASE);
     for told in told {
-        assert_eq!((told.refusals, told.finished_at), (0, finished_at));
+        assert_eq!(
+            (told.refusals, told.finished_at),
+            (work.answer(), finished_at)
+        );
         assert!(!erases || u64::from(told.bits) == 32 * work.words());
     }
 }
