@@ -34,7 +34,7 @@ pub extern "C" fn lurgabel_layout4_reset(s: &mut Registers, pages: u32) -> u32
 pub extern "C" fn lurgabel_layout4_set_inputs(s: &mut Registers, provision: u32, locked: u32) -> u32
     ensures { λ r. ⌜ record { told = r; registers = now (s .exit) } ≡ setInputsIn (now (s .entry)) (inputsOf provision locked) ⌝ }
 {
-    settings::set_inputs(s, calls::inputs(provision, locked))
+    inputs::set_inputs(s, calls::inputs(provision, locked))
 }
 
 #[no_mangle]
@@ -79,7 +79,7 @@ pub extern "C" fn lurgabel_layout4_set_bank_erase(s: &mut Registers, bank: u32, 
 pub extern "C" fn lurgabel_layout4_clear_errors(s: &mut Registers) -> u32
     ensures { λ r. ⌜ record { told = r; registers = now (s .exit) } ≡ clearIn (now (s .entry)) ⌝ }
 {
-    settings::clear(s)
+    inputs::clear(s)
 }
 
 // ---- initialise and RMA

@@ -27,7 +27,7 @@ fn last_number(s: &[u8], next: usize, tag: u32) -> Parsed
     ensures { λ r. ⌜ r ≡ cond (eqb tag 1) (statedAt (now (s .entry)) next .end) (numberTo (now (s .entry)) 7 next) ⌝ }
 {
     if tag == OPERATION {
-        let stated = sheets::stated_at(s, next);
+        let stated = sheet_entries::stated_at(s, next);
         let end = stated.end;
         return end;
     }

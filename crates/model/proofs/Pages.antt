@@ -62,7 +62,7 @@ data-ruling s t p h = let q = data-page (s .pages) t p h in rw (q .0, q .1)
 info-ruling : (s : Setup) (t : ℕ) (p : Page) → pageInBank (s .pages) p < infoCount t
     → rulingOfPage s (imagePage (s .pages) true t p) ≡ rulingAt s true t p
 unfolding rulingAt rulingOfPage
-info-ruling s t p h = let q = info-page (s .pages) t p h in rw (q .0, q .1)
+info-ruling s t p h = let q = info-page (s .pages) t p h in simp (q .0, q .1)
 
 -- ---- the places of an operation that is not denied
 

@@ -8,14 +8,15 @@ use lib.Dec.{ltb, leb}
 use lib.ListN.{length, getD, set}
 use lib.Seq.{getD-set-same, getD-set-other}
 use borrow.Author.Tests.{leb-true, le-ltb, ltb-true, ltb-false, eqb-true, not-true, lt-ltb}
-use Rattle.model.specs.Geometry.{bankPages, pageWords, pageOf, bankOfPage, bankOfWord, imagePageOf, imageWords, wordAt, imagePage}
+use Rattle.model.specs.Geometry.{bankPages, pageWords, pageOf, bankOf, bankOfPage, bankOfWord, imagePageOf, imageWords, wordAt, imagePage, firstWord, specialPage, creatorPage}
 use Rattle.model.specs.Places.{placeOf}
 use Rattle.model.specs.State.{Flash, Leaves, operationOf, movedOf}
 use Rattle.model.specs.Refusals.{accepts, readyAnswer}
 use Rattle.model.specs.Valid.{all, lostLimit, physicalFits, valid, validWith}
 use Rattle.model.specs.Steps.{stalls, advance, step}
 use Rattle.model.specs.Host.{hostRead}
-use Rattle.model.specs.Rounds.{goes, wouldMove, progressBank, nextBank, hostBank, competes, lostIn, hostGoes, stepGoes, bothGo, round, hostServed, stepServed}
+use Rattle.model.specs.Rounds.{goes, wouldMove, progressBank, nextBank, hostBank, competes, lostIn, hostGoes, stepGoes, contest, bothGo, round, hostServed, stepServed}
+use Rattle.model.specs.declared.Page.{Page}
 use Rattle.model.specs.declared.ByteAddress.{ByteAddress}
 use Rattle.model.specs.declared.Work.{Work}
 use Rattle.model.specs.declared.Work.the-variants.{Read, Program, Erase}
@@ -130,10 +131,24 @@ module _ (c : Controller) (f : Flash) where
   unfolding hostRead
   other-counts a bank other = (rw getD-set-other, rw (getD-set-other, step-leaves-alone c f .1))
 
+-- While the count is 4 the host goes; once it is 5, the controller does.
+pub host-at-4 : (c : Controller) (f : Flash) (a : ByteAddress) → lostIn c (nextBank c) ≡ 4 → contest c f a ≡ hostGoes c f a
+host-at-4 c f a h = rw h
+
+pub controller-at-5 : (c : Controller) (f : Flash) (a : ByteAddress) → lostIn c (nextBank c) ≡ 5 → contest c f a ≡ stepGoes c f
+controller-at-5 c f a h = rw h
+
 -- A host address past 2D pages counts as bank 1.
+past-in-bank : (d : ℕ) (p : Page) → 2 * d ≤ p .0 → bankOf d p ≡ 1
+past-in-bank d p h = rw (le-ltb (p .0) d (omega arith))
+
 pub past-in-bank-1 : (d : ℕ) (a : ByteAddress) → 2 * d ≤ pageOf a .0 → hostBank d a ≡ 1
 unfolding hostBank
-past-in-bank-1 d a h = rw (le-ltb (pageOf a .0) d (omega arith))
+past-in-bank-1 d a h = past-in-bank d (pageOf a) h
+
+-- The information pages of bank 0 lie in bank 0: its creator page does.
+creator-in-bank-0 : bankOfWord 16 (firstWord (specialPage 16 creatorPage)) ≡ 0
+creator-in-bank-0 = refl
 
 -- The bank of a bus word is that of its page,
 pub word-in-its-bank : (d : ℕ) (w : BusWord) → w .0 < imageWords d → bankOfPage d (imagePageOf w) ≡ bankOfWord d w

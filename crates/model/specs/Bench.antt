@@ -1,5 +1,5 @@
 -- The starred cases of the bench sheet (01, 'Bench sheet') and those of denied operations (02, L2 and L3), each put to the
--- definition of a call.
+-- definition of a call; and states, valid and not.
 use Prim.Native.Nat.{ℕ, zero, suc}
 use mathlib.Core.Bool.{Bool, true, false, _&&_}
 use mathlib.Core.List.{List, [], _∷_}
@@ -7,7 +7,7 @@ use lib.Dec.{eqb}
 use lib.ListN.{getD, replicate}
 use Rattle.model.specs.Geometry.{infoCount, byteAddress, firstWord, dataImagePage, specialPage, creatorPage}
 use Rattle.model.specs.Words.{allOnes}
-use Rattle.model.specs.State.{Flash, flash, Leaves, stored, resetController}
+use Rattle.model.specs.State.{Flash, flash, Leaves, stored, resetController, withPhase, withErrors, withQueues, withProgress, withPhysical}
 use Rattle.model.specs.Rights.{readableWords}
 use Rattle.model.specs.Refusals.{numberOf, reported}
 use Rattle.model.specs.Settings.{setInputs, setRegion, setDefault, setInfo, setErase}
@@ -16,6 +16,9 @@ use Rattle.model.specs.Steps.{start, push, step}
 use Rattle.model.specs.Whole.{whole}
 use Rattle.model.specs.declared.Region.{Region}
 use Rattle.model.specs.declared.Operation.{Operation}
+use Rattle.model.specs.declared.Phase.the-variants.{Disabled}
+use Rattle.model.specs.declared.Work.the-variants.{Read, Program, Erase}
+use Rattle.model.specs.declared.Progress.the-variants.{Running}
 use Rattle.model.specs.declared.Controller.{Controller}
 use Rattle.model.specs.declared.Stepped.{Stepped}
 
@@ -238,4 +241,65 @@ cutReads =
     ∷ records heldTwice (op 2 0 0 0x0BFC 0) 9 0x0BFC
     ∷ records nothingGiven (op 3 0 0 0x7FFC 0) 9 0x7FFC
     ∷ records heldTwice (op 0 0 0 0x7FFC 2) 7 0x7FFC
+    ∷ []
+
+-- ---- valid states, and for each sentence on them one that is not valid (01: 'a state is ours exactly if ..'; 02, L1)
+
+-- So many words in the queues.
+abbrev pub queued : ℕ → ℕ → Controller → Controller
+queued reads programs c =
+    withQueues c
+    (record {
+      reads = record { words = replicate 16 0; len = reads };
+      programs = record { words = replicate 16 0; len = programs };
+    })
+
+-- A page erase, a program of three words and a read of two in progress, with so many words moved.
+abbrev pub erasing : ℕ → Controller → Controller
+erasing moved c = withProgress c (Running (Erase (op 2 0 0 0 0) moved))
+
+abbrev pub programming : ℕ → Controller → Controller
+programming moved c = withProgress c (Running (Program (op 1 0 0 0 3) moved))
+
+abbrev pub reading : ℕ → Controller → Controller
+reading moved c = withProgress c (Running (Read (op 0 0 0 0 2) moved 2))
+
+-- The address of the last error, and whether a malformed operation was recorded.
+abbrev pub lastError : Bool → ℕ → Controller → Controller
+lastError malformed address c =
+    withErrors c
+    (record { malformed = malformed; range = false; window = false; denied = false; address = record { 0 = address } })
+
+abbrev pub lost : ℕ → Controller → Controller
+lost n c = withPhysical c (record { lost = 0 ∷ n ∷ [] })
+
+unfoldable pub validStates : List Controller
+validStates =
+    queued 16 0 bench
+    ∷ withPhase bench Disabled
+    ∷ erasing 255 bench
+    ∷ queued 0 2 (programming 1 bench)
+    ∷ reading 1 bench
+    ∷ lastError true 4 bench
+    ∷ lost 5 bench
+    ∷ []
+
+unfoldable pub invalidStates : List Controller
+invalidStates =
+    -- Queues hold at most 16 words, and none unless ready.
+    queued 17 0 bench
+    ∷ withPhase (queued 1 0 bench) Disabled
+    -- An operation is in progress only when ready, has words left to move, and passes 5, 7, 8 and 9.
+    ∷ withPhase (erasing 0 bench) Disabled
+    ∷ erasing 256 bench
+    ∷ erasing 0 nothingGiven
+    -- At most n words are pushed in all, and none with no program in progress.
+    ∷ queued 0 3 (programming 1 bench)
+    ∷ queued 0 1 bench
+    ∷ queued 0 1 (erasing 0 bench)
+    ∷ queued 0 1 (reading 0 bench)
+    -- The last address is 0 if no kind is recorded.
+    ∷ lastError false 4 bench
+    -- A lost count is at most 5.
+    ∷ lost 6 bench
     ∷ []

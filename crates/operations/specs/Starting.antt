@@ -7,7 +7,7 @@ use Rattle.model.specs.State.{isBusy}
 use Rattle.model.specs.declared.Operation.{Operation}
 use Rattle.model.specs.declared.Answer.{Answer}
 use Rattle.registers.specs.Registers.{encoded, standsFor}
-use Rattle.lookups.specs.Answered.{Answered}
+use Rattle.answers.specs.Answered.{Answered}
 
 -- The registers encode a state whose D is 10 to 256, nothing is in progress, and the answer is that of checks 5, 7, 8 and 9.
 pub record Begins (s : List ℕ) (o : Operation) (a : Answer) : Type 0 where

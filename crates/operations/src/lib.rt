@@ -28,7 +28,7 @@ fn starts(o: Operation, answer: Answer) -> bool
     ensures { λ r. ⌜ r ≡ starts o answer ⌝ }
 {
     let accepted = refusals::accepts(answer);
-    let denied = lookups::is_denied_read(o, answer);
+    let denied = answers::is_denied_read(o, answer);
     accepted | denied
 }
 
@@ -38,7 +38,7 @@ fn readable(s: &Registers, o: Operation, answer: Answer) -> u32
     ensures { λ r. ⌜ r ≡ cond (isRead o) (readableWords (standsFor (now (s .entry)) .setup) o) 0 ⌝ }
 {
     if places::is_read(o) {
-        return lookups::readable(s, o, answer);
+        return answers::readable(s, o, answer);
     }
     0
 }
@@ -59,7 +59,7 @@ fn started(s: &mut Registers, o: Operation, answer: Answer)
     requires { ⌜ Begins (now s) o answer ⌝ }
     ensures { λ _. ⌜ now (s .exit) ≡ put (now (s .entry)) (started (standsFor (now (s .entry))) o answer .controller) ⌝ }
 {
-    let errors = lookups::recorded(s, o, answer);
+    let errors = answers::recorded(s, o, answer);
     begin(s, o, answer);
     registers::put_errors(s, errors);
 }
@@ -71,7 +71,7 @@ pub fn start(s: &mut Registers, o: Operation) -> ToldAnswer
     if !refusals::accepts(first) {
         return calls::told(first);
     }
-    let answer = lookups::operation_answer(s, o);
+    let answer = answers::operation_answer(s, o);
     started(s, o, answer);
     calls::told(answer)
 }

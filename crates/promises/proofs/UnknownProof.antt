@@ -1,12 +1,14 @@
 -- Denied words stay unknown. Assumes nothing.
-use Prim.Native.Nat.{ℕ, _≤_}
+use Prim.Native.Nat.{ℕ, _≤_, _-_}
 use mathlib.Core.Path.{_≡_, refl, sym, ap, _∙_}
 use mathlib.Core.Bool.{Bool, true, false}
-use mathlib.Core.List.{List}
+use mathlib.Core.List.{List, _++_}
 use lib.Dec.{ltb}
-use lib.ListN.{length}
+use lib.ListN.{length, drop, replicate}
 use borrow.Author.Tests.{le-ltb}
+use Rattle.model.specs.Words.{allOnes}
 use Rattle.model.specs.State.{Flash, Leaves}
+use Rattle.model.specs.Rights.{readableWords}
 use Rattle.model.specs.Refusals.{numberOf, accepts, isDeniedRead, readyAnswer}
 use Rattle.model.specs.Valid.{lostLimit, validWith}
 use Rattle.model.specs.Lifecycle.{initialiseAnswer, initialise, rmaAnswer, rma}
@@ -107,7 +109,9 @@ toldBy s k n = refusedReply s k n (reportOf s k n)
 -- A denied read tells its true words and then ones, the same on both images if its true words are;
 buffer-told : (c : Controller) (f g : Flash) (o : Operation) (b : List ℕ) (n : ℕ)
     → wordsAt f (toldPlaces c (Whole o b) n) ≡ wordsAt g (toldPlaces c (Whole o b) n) → bufferBy (stateOf c f) o b n ≡ bufferBy (stateOf c g) o b n
-buffer-told c f g o b n = by-test (isDeniedRead o n) (λ d. rw d (λ same. rw same)) (λ d. rw d (λ same. refl))
+buffer-told c f g o b n =
+    let ones : List ℕ = replicate (o .count - readableWords (c .setup) o) allOnes ++ drop (o .count) b in
+    by-test (isDeniedRead o n) (λ d. rw d (λ same. ap (λ (ws : List ℕ). ws ++ ones) same)) (λ d. rw d (λ same. refl))
 
 -- any other refused call tells no word.
 side-told : (c : Controller) (f g : Flash) (k : Call) (n : ℕ) → wordsAt f (toldPlaces c k n) ≡ wordsAt g (toldPlaces c k n)

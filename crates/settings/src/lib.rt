@@ -1,45 +1,16 @@
-// The inputs, the settings, and clearing the error record, on registers: calls that are lent no image.
+// The settings, on registers: calls that are lent no image.
 ghost use mathlib.Core.Path.{_≡_};
-ghost use Rattle.model.specs.Settings.{settingAnswer};
-ghost use Rattle.registers.specs.Registers.{decode};
-ghost use Rattle.calls.specs.Calls.{setInputsIn, setRegionIn, setDefaultIn, setInfoIn, setEraseIn, clearIn};
-use model::Answer;
-use model::Inputs;
+ghost use Rattle.calls.specs.Calls.{setRegionIn, setDefaultIn, setInfoIn, setEraseIn};
 use model::PageSetting;
 use model::Region;
 use registers::Registers;
-
-// Checks 1, 4 and 13, in this order: what is in progress is looked at in a valid state only.
-fn setting_answer(s: &Registers, fits: bool) -> Answer
-    ensures { λ r. ⌜ r ≡ settingAnswer (decode (now (s .entry))) fits ⌝ }
-{
-    if !validity::valid(s) {
-        return Answer::Invalid;
-    }
-    let progress = registers::progress(s);
-    let busy = refusals::check(refusals::is_busy(progress), Answer::Busy);
-    let bad = refusals::check(!fits, Answer::BadSetting);
-    refusals::or_else(busy, bad)
-}
-
-// The life-cycle inputs: provision enable, and seeds locked. They are no setting.
-pub fn set_inputs(s: &mut Registers, inputs: Inputs) -> u32
-    ensures { λ r. ⌜ record { told = r; registers = now (s .exit) } ≡ setInputsIn (now (s .entry)) inputs ⌝ }
-{
-    let answer = setting_answer(s, true);
-    if !refusals::accepts(answer) {
-        return calls::number(answer);
-    }
-    registers::put_inputs(s, inputs);
-    0
-}
 
 // A region, by its number 0 to 7.
 pub fn set_region(s: &mut Registers, number: u32, g: Region) -> u32
     ensures { λ r. ⌜ record { told = r; registers = now (s .exit) } ≡ setRegionIn (now (s .entry)) number g ⌝ }
 {
     let fits = bounds::region_fits(registers::pages(s), g);
-    let answer = setting_answer(s, (number < 8) & fits);
+    let answer = inputs::setting_answer(s, (number < 8) & fits);
     if !refusals::accepts(answer) {
         return calls::number(answer);
     }
@@ -51,7 +22,7 @@ pub fn set_region(s: &mut Registers, number: u32, g: Region) -> u32
 pub fn set_default(s: &mut Registers, rights: u8) -> u32
     ensures { λ r. ⌜ record { told = r; registers = now (s .exit) } ≡ setDefaultIn (now (s .entry)) rights ⌝ }
 {
-    let answer = setting_answer(s, bounds::rights_fit(rights));
+    let answer = inputs::setting_answer(s, bounds::rights_fit(rights));
     if !refusals::accepts(answer) {
         return calls::number(answer);
     }
@@ -65,7 +36,7 @@ pub fn set_info(s: &mut Registers, bank: u32, t: u8, page: u32, p: PageSetting) 
 {
     let exists = bounds::info_exists(bank, t, page);
     let fits = bounds::page_fits(p);
-    let answer = setting_answer(s, exists & fits);
+    let answer = inputs::setting_answer(s, exists & fits);
     if !refusals::accepts(answer) {
         return calls::number(answer);
     }
@@ -78,21 +49,10 @@ pub fn set_info(s: &mut Registers, bank: u32, t: u8, page: u32, p: PageSetting) 
 pub fn set_erase(s: &mut Registers, bank: u32, on: bool) -> u32
     ensures { λ r. ⌜ record { told = r; registers = now (s .exit) } ≡ setEraseIn (now (s .entry)) bank on ⌝ }
 {
-    let answer = setting_answer(s, bank < 2);
+    let answer = inputs::setting_answer(s, bank < 2);
     if !refusals::accepts(answer) {
         return calls::number(answer);
     }
     registers::put_permission(s, bank as usize, on);
-    0
-}
-
-// Clears the error record: the kinds and the last address.
-pub fn clear(s: &mut Registers) -> u32
-    ensures { λ r. ⌜ record { told = r; registers = now (s .exit) } ≡ clearIn (now (s .entry)) ⌝ }
-{
-    if !validity::valid(s) {
-        return calls::number(Answer::Invalid);
-    }
-    registers::put_errors(s, refusals::no_errors());
     0
 }

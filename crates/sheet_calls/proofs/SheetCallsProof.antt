@@ -19,8 +19,8 @@ use Rattle.refinement.proofs.RefinementProof.{refines}
 use Rattle.sheets.specs.declared.Request.{Request}
 use Rattle.sheets.specs.declared.Request.the-variants.{Whole, Rights}
 use Rattle.sheets.specs.Sheet.{expanded, requestAt, loaded}
-use Rattle.sheet_run.specs.Run.{Bench, requested, performed, performedAll, benchFlash, benchRegisters}
-use Rattle.sheet_run.specs.Run as bench
+use Rattle.sheet_effects.specs.Run.{Bench, requested, performed, performedAll, benchFlash, benchRegisters}
+use Rattle.sheet_effects.specs.Run as bench
 use Rattle.sheet_calls.specs.SheetCalls.{requestsOf, callOf, callsOf, printedBy, printed, printedFrom, SheetIsCalls, SheetStaysValid}
 use Rattle.sheet_calls.proofs.Lengths.{long-default, long-whole}
 

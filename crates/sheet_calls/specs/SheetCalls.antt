@@ -14,8 +14,8 @@ use Rattle.registers.specs.Registers.{decode}
 use Rattle.sheets.specs.declared.Request.{Request}
 use Rattle.sheets.specs.declared.Request.the-variants as request
 use Rattle.sheets.specs.Sheet.{expanded, requestAt, loaded}
-use Rattle.sheet_run.specs.Run.{SheetLeaves, benchFlash, benchRegisters}
-use Rattle.sheet_run.specs.Run as bench
+use Rattle.sheet_effects.specs.Run.{SheetLeaves, benchFlash, benchRegisters}
+use Rattle.sheet_effects.specs.Run as bench
 
 -- What a good sheet asks for, in the order in which its entries run. A bad one asks for nothing.
 unfoldable pub requestsOf : List ℕ → List Request

@@ -32,7 +32,7 @@ pub fn moved<'a>(r: Reader<'a>, place: usize) -> Reader<'a>
 fn outer_block(sheet: &[u8], place: usize) -> Parsed
     ensures { λ b. ⌜ b ≡ counted (blockAt (now (sheet .entry)) place 0) ⌝ }
 {
-    sheets::block(sheet, place, 0)
+    sheet_entries::block(sheet, place, 0)
 }
 
 // The block that begins there, around which there is no repeat.

@@ -1,4 +1,3 @@
--- Running a bench sheet: worked cases, and laws.
+-- Running a bench sheet: where its entries are found.
 
-pub mod Cases
-pub mod Running
+pub mod Placed

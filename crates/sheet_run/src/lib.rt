@@ -1,4 +1,4 @@
-// Bench sheets, judged and run on the registers. specs/Run.antt says what a run leaves.
+// Bench sheets, judged and run on the registers. The specs of `sheet_effects` say what a run leaves.
 ghost use mathlib.Core.Path.{_≡_};
 ghost use mathlib.Core.List.{[]};
 ghost use Prim.Native.Nat.{_+_, _≤_};
@@ -6,11 +6,13 @@ ghost use lib.ListN.{length};
 ghost use lib.Seq.{sets};
 ghost use Rattle.model.specs.State.{flash};
 ghost use Rattle.sheets.specs.Sheet.{verdictOf};
-ghost use Rattle.sheet_run.specs.Run.{performed, run, benchRun, printedOf};
+ghost use Rattle.sheet_effects.specs.Run.{performed, run, benchRun, printedOf};
 use expansions::Places;
 use model::ERASED;
 use numbers::Parsed;
 use registers::Registers;
+use sheet_effects::Line;
+use sheet_effects::Ran;
 use sheets::MAX_BYTES;
 use sheets::MAX_ENTRIES;
 use sheets::Request;
@@ -26,19 +28,6 @@ pub type Row = [u32; ROW_NUMBERS];
 const PAGES: u32 = 16;
 
 const IMAGE_WORDS: usize = 14848;
-
-// What an entry prints, if it is an operation.
-pub struct Line {
-    pub prints: bool,
-    pub answer: u32,
-    pub bits: u32,
-}
-
-// The verdict, and how many numbers were written to the row.
-pub struct Ran {
-    pub verdict: Verdict,
-    pub numbers: u32,
-}
 
 // ---- the verdict
 
@@ -70,7 +59,7 @@ pub fn judge(sheet: &[u8]) -> Verdict
 fn perform(s: &mut Registers, image: &mut [u32], sheet: &[u8], at: usize) -> Line
     ensures { λ r. ⌜ record { registers = now (s .exit); flash = flash (now (image .exit)); printed = printedOf r } ≡ performed (now (sheet .entry)) at (record { registers = now (s .entry); flash = flash (now (image .entry)); printed = [] }) ⌝ }
 {
-    let request = sheets::request_at(sheet, at);
+    let request = sheet_entries::request_at(sheet, at);
     match request {
         Request::Rights(rights) => {
             settings::set_default(s, rights);
@@ -81,7 +70,7 @@ fn perform(s: &mut Registers, image: &mut [u32], sheet: &[u8], at: usize) -> Lin
             }
         }
         Request::Whole { op, words } => {
-            let mut buffer = sheets::loaded(sheet, op, words);
+            let mut buffer = sheet_entries::loaded(sheet, op, words);
             let told = whole::run(s, image, op, &mut buffer);
             Line {
                 prints: true,

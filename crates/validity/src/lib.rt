@@ -97,12 +97,12 @@ fn work_fits(s: &Registers, w: Work) -> bool
             readable,
         } => {
             let left = (moved as usize) < places::total_words(d, op);
-            let fits = lookups::read_fits(s, op, readable);
+            let fits = answers::read_fits(s, op, readable);
             fits & (left & none)
         }
         Work::Program { op, moved } => {
             let left = (moved as usize) < places::total_words(d, op);
-            let fits = lookups::program_fits(s, op);
+            let fits = answers::program_fits(s, op);
             let pushed = pushed_fits(moved, queued, op.count);
             fits & (left & pushed)
         }
@@ -110,7 +110,7 @@ fn work_fits(s: &Registers, w: Work) -> bool
             let page = places::is_page_erase(op);
             let bank = places::is_bank_erase(op);
             let left = (moved as usize) < places::total_words(d, op);
-            let accepted = refusals::accepts(lookups::operation_answer(s, op));
+            let accepted = refusals::accepts(answers::operation_answer(s, op));
             (page | bank) & (left & (accepted & none))
         }
     }

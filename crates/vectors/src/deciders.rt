@@ -102,7 +102,7 @@ pub fn provision_off(s: &mut Registers) {
         locked: false,
     };
     text(b"provision off");
-    answer_line(settings::set_inputs(s, inputs));
+    answer_line(inputs::set_inputs(s, inputs));
 }
 
 // Pages 1 and 2 are the seed pages: the seed lock is named whatever their settings say.

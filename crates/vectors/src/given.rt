@@ -53,7 +53,7 @@ pub fn all_rights() -> Registers {
         provision: true,
         locked: false,
     };
-    settings::set_inputs(&mut s, inputs);
+    inputs::set_inputs(&mut s, inputs);
     settings::set_default(&mut s, ALL_RIGHTS);
     open_bank(&mut s, 0);
     open_bank(&mut s, 1);

@@ -107,7 +107,7 @@ pub fn seeds_locked(s: &Registers) {
         locked: true,
     };
     text(b"provision on, seeds locked");
-    answer_line(settings::set_inputs(&mut now, inputs));
+    answer_line(inputs::set_inputs(&mut now, inputs));
     page_kinds(&now, b"owner page: ", 0x0800);
     page_kinds(&now, b"creator page: ", 0x0400);
 }

@@ -103,9 +103,9 @@ fn answered(
     if refusals::accepts(answer) {
         return started(s, image, o, buffer);
     }
-    let errors = lookups::recorded(s, o, answer);
-    if lookups::is_denied_read(o, answer) {
-        let readable = lookups::readable(s, o, answer);
+    let errors = answers::recorded(s, o, answer);
+    if answers::is_denied_read(o, answer) {
+        let readable = answers::readable(s, o, answer);
         read(s, image, o, buffer, readable);
         registers::put_errors(s, errors);
         return told(answer, 0);
@@ -125,6 +125,6 @@ pub fn run(s: &mut Registers, image: &mut [u32], o: Operation, buffer: &mut [u32
     if short_buffer(o, buffer) {
         return told(Answer::ShortBuffer, 0);
     }
-    let answer = lookups::operation_answer(s, o);
+    let answer = answers::operation_answer(s, o);
     answered(s, image, o, buffer, answer)
 }

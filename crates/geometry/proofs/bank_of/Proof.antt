@@ -1,4 +1,5 @@
 -- `geometry::bank_of` meets its contract. Assumes nothing.
+use native.Mathlib.Omega.{arith}
 use borrow.Author.Needs.{needs}
 use borrow.Author.Tests.{lt-ltb, le-ltb}
 use Rattle.geometry.proofs.bank_of.Statement.{statement}
@@ -8,5 +9,5 @@ pub bank-of-spec : {M : Type 1} → statement M
 bank-of-spec =
     tie.close
     (tie.spec
-    (λ c. (simp (lt-ltb _ _ (c .if1 .taken)), search needs))
-    (λ c. (simp (le-ltb _ _ (c .if1 .left)), search needs)))
+    (λ c. (simp (lt-ltb (c .before .before .args .p .0) (c .before .before .args .d) (omega arith)), search needs))
+    (λ c. (simp (le-ltb (c .before .before .args .p .0) (c .before .before .args .d) (omega arith)), search needs)))

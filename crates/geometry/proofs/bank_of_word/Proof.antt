@@ -1,4 +1,6 @@
 -- `geometry::bank_of_word` meets its contract. Assumes nothing.
+use Prim.Native.Nat.{_+_, _*_}
+use native.Mathlib.Omega.{arith}
 use borrow.Author.Needs.{needs}
 use borrow.Author.Tests.{lt-ltb, le-ltb}
 use Rattle.geometry.proofs.bank_of_word.Statement.{statement}
@@ -11,5 +13,5 @@ bank-of-word-spec =
     (λ c. search needs)
     (λ c. search needs)
     (λ c. search needs)
-    (λ c. (simp (lt-ltb _ _ (c .if1 .taken)), search needs))
-    (λ c. (simp (le-ltb _ _ (c .if1 .left)), search needs)))
+    (λ c. (simp (lt-ltb (c .before .before .args .w .0) ((c .before .before .args .d + 13) * 256) (omega arith)), search needs))
+    (λ c. (simp (le-ltb (c .before .before .args .w .0) ((c .before .before .args .d + 13) * 256) (omega arith)), search needs)))

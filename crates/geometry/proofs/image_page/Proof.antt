@@ -15,7 +15,7 @@ image-page-spec =
     (λ c κs. search needs)
     (λ c.
     let p = c .before .before in
-    (rw (c .info-image-page .ensures .0, p .page-in-bank .ensures .0, p .before .bank-of .ensures .0, c .before .if1 .taken), search needs))
+    (simp (c .info-image-page .ensures .0, p .page-in-bank .ensures .0, p .before .bank-of .ensures .0, c .before .if1 .taken), search needs))
     (λ c.
     let p = c .before .before in
-    (rw (c .data-image-page .ensures .0, p .page-in-bank .ensures .0, p .before .bank-of .ensures .0, c .before .if1 .left), search needs)))
+    (simp (c .data-image-page .ensures .0, p .page-in-bank .ensures .0, p .before .bank-of .ensures .0, c .before .if1 .left), search needs)))

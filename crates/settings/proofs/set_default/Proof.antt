@@ -2,7 +2,8 @@
 use lib.ListN as list
 use Rattle.model.specs.Valid.{rightsFit}
 use Rattle.calls.specs.Calls.{setDefaultIn}
-use Rattle.settings.proofs.Configured.{Set, default-set}
+use Rattle.inputs.proofs.Configured.{Set}
+use Rattle.settings.proofs.Configured.{default-set}
 use Rattle.settings.proofs.set_default.Statement.{statement}
 use Rattle.settings.proofs.set_default.Tie as tie
 

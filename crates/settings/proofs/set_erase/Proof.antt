@@ -4,7 +4,8 @@ use lib.Dec.{ltb}
 use borrow.Author.Tests.{ltb-true}
 use Rattle.registers.specs.Registers.{putErase}
 use Rattle.calls.specs.Calls.{setEraseIn}
-use Rattle.settings.proofs.Configured.{Set, erase-set}
+use Rattle.inputs.proofs.Configured.{Set}
+use Rattle.settings.proofs.Configured.{erase-set}
 use Rattle.settings.proofs.set_erase.Statement.{statement}
 use Rattle.settings.proofs.set_erase.Tie as tie
 

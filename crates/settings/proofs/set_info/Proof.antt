@@ -6,7 +6,8 @@ use Rattle.model.specs.Settings.{infoExists}
 use Rattle.registers.specs.Registers.{putSetting}
 use Rattle.calls.specs.Calls.{setInfoIn}
 use Rattle.model.proofs.Bool.{and-left}
-use Rattle.settings.proofs.Configured.{Set, info-set, page-exists}
+use Rattle.inputs.proofs.Configured.{Set}
+use Rattle.settings.proofs.Configured.{info-set, page-exists}
 use Rattle.settings.proofs.set_info.Statement.{statement}
 use Rattle.settings.proofs.set_info.Tie as tie
 

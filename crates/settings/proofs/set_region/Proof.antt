@@ -8,7 +8,8 @@ use Rattle.registers.specs.Layout.{pagesAt}
 use Rattle.registers.specs.Registers.{putRegion}
 use Rattle.calls.specs.Calls.{setRegionIn}
 use Rattle.model.proofs.Bool.{and-left}
-use Rattle.settings.proofs.Configured.{Set, region-set}
+use Rattle.inputs.proofs.Configured.{Set}
+use Rattle.settings.proofs.Configured.{region-set}
 use Rattle.settings.proofs.set_region.Statement.{statement}
 use Rattle.settings.proofs.set_region.Tie as tie
 

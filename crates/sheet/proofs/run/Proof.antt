@@ -2,8 +2,8 @@
 use mathlib.Core.Path.{ap}
 use borrow.Author.Needs.{needs}
 use lib.ListN.{replicate}
-use Rattle.sheet_run.specs.Run.{BenchLeaves}
-use Rattle.sheet_run.proofs.Running.{bench-few}
+use Rattle.sheet_effects.specs.Run.{BenchLeaves}
+use Rattle.sheet_effects.proofs.Running.{bench-few}
 use Rattle.sheet.proofs.run.Statement.{statement}
 use Rattle.sheet.proofs.run.Tie as tie
 

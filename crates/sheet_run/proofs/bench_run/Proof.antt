@@ -1,6 +1,6 @@
 -- `sheet_run::bench_run` meets its contract. Assumes nothing.
 use borrow.Author.Needs.{needs}
-use Rattle.sheet_run.proofs.Running.{bench-runs}
+use Rattle.sheet_effects.proofs.Running.{bench-runs}
 use Rattle.sheet_run.proofs.bench_run.Statement.{statement}
 use Rattle.sheet_run.proofs.bench_run.Tie as tie
 

@@ -1,7 +1,7 @@
 -- `sheet_run::perform` meets its contract. Assumes nothing.
 use mathlib.Core.Path.{refl}
 use borrow.Author.Needs.{needs}
-use Rattle.sheet_run.specs.Run.{requested, performed}
+use Rattle.sheet_effects.specs.Run.{requested, performed}
 use Rattle.sheet_run.proofs.perform.Statement.{statement}
 use Rattle.sheet_run.proofs.perform.Tie as tie
 

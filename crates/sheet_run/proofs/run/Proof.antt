@@ -6,7 +6,8 @@ use borrow.Author.Needs.{needs}
 use lib.ListN.{length}
 use Rattle.model.specs.State.{flash}
 use Rattle.expansions.proofs.Goods.{good-room}
-use Rattle.sheet_run.proofs.Running.{Running, running-none, running-more, runs-few, runs-there, runs-at, run-good, run-bad}
+use Rattle.sheet_effects.proofs.Running.{Running, running-none, running-more, runs-few, runs-there, run-good, run-bad}
+use Rattle.sheet_run.proofs.Placed.{runs-at}
 use Rattle.sheet_run.proofs.run.Statement.{statement}
 use Rattle.sheet_run.proofs.run.Tie as tie
 

@@ -1,0 +1,4 @@
+-- Laws of the answers.
+
+pub mod Permissions
+pub mod Programs

@@ -1,0 +1,3 @@
+-- What the record of an answer may count on.
+
+pub mod Answered

@@ -1,4 +1,0 @@
--- Laws of the look-ups.
-
-pub mod OnePage
-pub mod Permissions

@@ -1,0 +1,4 @@
+-- Running a bench sheet: worked cases, and laws.
+
+pub mod Cases
+pub mod Running

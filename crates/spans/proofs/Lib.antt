@@ -1,0 +1,3 @@
+-- Laws of spans of one page.
+
+pub mod OnePage

@@ -1,0 +1,3 @@
+-- Spans of one page.
+
+pub mod OnePage
