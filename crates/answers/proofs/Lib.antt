@@ -1,4 +1,3 @@
 -- Laws of the answers.
 
-pub mod Permissions
 pub mod Programs

@@ -1,94 +1,19 @@
 // Answers and records: checks 5, 7, 8 and 9 of an operation, and what they record, on the state where it lies.
 ghost use mathlib.Core.Path.{_≡_};
-ghost use mathlib.Core.Bool.{true, false, not, _&&_, _||_};
+ghost use mathlib.Core.Bool.{cond, _&&_, _||_};
 ghost use lib.Dec.{eqb};
-ghost use Prim.Native.Nat.{_<_, _≤_};
-ghost use lib.ListN.{getD};
-ghost use Rattle.model.specs.Rights.{denied, deciderOf, readableWords};
-ghost use Rattle.model.specs.Kinds.{isRead, isProgram, isBankErase};
-ghost use Rattle.model.specs.Places.{spanWords};
-ghost use mathlib.Core.Bool.{cond};
-ghost use Rattle.model.specs.Refusals.{numberOf, accepts, isDenied, isDeniedRead, check};
-ghost use Rattle.model.specs.Checks.{malformed, operationAnswer};
+ghost use Rattle.model.specs.Rights.{readableWords};
+ghost use Rattle.model.specs.Kinds.{isRead, isProgram};
+ghost use Rattle.model.specs.Refusals.{numberOf, accepts, isDenied, isDeniedRead};
+ghost use Rattle.model.specs.Checks.{operationAnswer};
 ghost use Rattle.model.specs.Errors.{errorAddress, recorded};
-ghost use Rattle.registers.specs.Registers.{settingsOf, errorsAt, standsFor};
-ghost use Rattle.spans.specs.OnePage.{OnePage};
+ghost use Rattle.registers.specs.Registers.{errorsAt, standsFor};
 ghost use Rattle.answers.specs.Answered.{Answered};
 use model::Answer;
 use model::ByteAddress;
-use model::Decider;
 use model::Errors;
 use model::Operation;
-use model::PAGE_BYTES;
-use model::Page;
-use model::WIDE_PAGE_BYTES;
 use registers::Registers;
-
-fn bank_closed(s: &Registers, bank: u32) -> bool
-    requires { ⌜ bank ≤ 1 ⌝ }
-    ensures { λ r. ⌜ r ≡ not (getD (settingsOf (now (s .entry)) .erase) bank false) ⌝ }
-{
-    !registers::permission(s, bank as usize)
-}
-
-// Check 9 of a bank erase: its bank's permission decides.
-fn bank_answer(s: &Registers, o: Operation) -> Answer
-    requires { ⌜ isBankErase o ≡ true ⌝ }
-    ensures { λ r. ⌜ r ≡ check (denied (standsFor (now (s .entry)) .setup) o) (Answer.Denied (deciderOf (standsFor (now (s .entry)) .setup) o)) ⌝ }
-{
-    let address = o.address;
-    let d = registers::pages(s);
-    let bank = geometry::bank_of(d, geometry::page_of(address));
-    let by = Decider::BankPermission;
-    refusals::check(bank_closed(s, bank), Answer::Denied(by))
-}
-
-// Check 9 of a span within one page: what decides that page decides.
-fn page_answer(s: &Registers, o: Operation) -> Answer
-    requires { ⌜ OnePage o ⌝ }
-    ensures { λ r. ⌜ r ≡ check (denied (standsFor (now (s .entry)) .setup) o) (Answer.Denied (deciderOf (standsFor (now (s .entry)) .setup) o)) ⌝ }
-{
-    let information = places::is_information(o);
-    let page = geometry::page_of(places::span_start(o));
-    let ruling = lookups::ruling_at(s, information, o.info, page);
-    let by = ruling.decider;
-    refusals::check(
-        !rights::grants(ruling.rights, places::right_needed(o)),
-        Answer::Denied(by),
-    )
-}
-
-// Check 9 of another span: who decides its first denied page is named.
-fn span_answer(s: &Registers, o: Operation) -> Answer
-    requires { ⌜ (isBankErase o ≡ false) × (spanWords o < 1048576) ⌝ }
-    ensures { λ r. ⌜ r ≡ check (denied (standsFor (now (s .entry)) .setup) o) (Answer.Denied (deciderOf (standsFor (now (s .entry)) .setup) o)) ⌝ }
-{
-    let words = places::span_words(o);
-    let allowed = spans::allowed_words(s, o);
-    if allowed < words {
-        let page = places::span_address(o, allowed) / WIDE_PAGE_BYTES;
-        let information = places::is_information(o);
-        let ruling = lookups::ruling_at(s, information, o.info, Page(page as u32));
-        let by = ruling.decider;
-        return Answer::Denied(by);
-    }
-    Answer::Accepted
-}
-
-// Check 9.
-fn right_answer(s: &Registers, o: Operation) -> Answer
-    requires { ⌜ malformed o ≡ false ⌝ }
-    ensures { λ r. ⌜ r ≡ check (denied (standsFor (now (s .entry)) .setup) o) (Answer.Denied (deciderOf (standsFor (now (s .entry)) .setup) o)) ⌝ }
-{
-    if places::is_bank_erase(o) {
-        return bank_answer(s, o);
-    }
-    let start = places::span_start(o);
-    if start.0 % PAGE_BYTES + 4 * places::span_words(o) <= PAGE_BYTES {
-        return page_answer(s, o);
-    }
-    span_answer(s, o)
-}
 
 // Checks 5, 7, 8 and 9. Only an operation that passes check 5 has a span to look at.
 pub fn operation_answer(s: &Registers, o: Operation) -> Answer
@@ -105,7 +30,7 @@ pub fn operation_answer(s: &Registers, o: Operation) -> Answer
     if checks::crosses_window(o) {
         return Answer::CrossesWindow;
     }
-    right_answer(s, o)
+    spans::right_answer(s, o)
 }
 
 // A denied read is refused and still starts.

@@ -1,3 +1,4 @@
--- Laws of spans of one page.
+-- Laws of spans of one page, and of the banks' permissions.
 
 pub mod OnePage
+pub mod Permissions

@@ -1,4 +1,4 @@
--- `answers::right_answer` meets its contract. Assumes nothing.
+-- `spans::right_answer` meets its contract. Assumes nothing.
 use Prim.Native.Nat.{_≤_}
 use mathlib.Core.Path.{_≡_, sym, ap, _∙_}
 use mathlib.Core.Bool.{false}
@@ -7,8 +7,8 @@ use Rattle.model.specs.Kinds.{isBankErase}
 use Rattle.model.specs.Places.{spanWords}
 use Rattle.model.specs.declared.ByteAddress.{ByteAddress}
 use Rattle.model.proofs.Checks.{span-words-bound}
-use Rattle.answers.proofs.right_answer.Statement.{statement}
-use Rattle.answers.proofs.right_answer.Tie as tie
+use Rattle.spans.proofs.right_answer.Statement.{statement}
+use Rattle.spans.proofs.right_answer.Tie as tie
 
 -- What is left is the span of a read, a program or a page erase, with some words and not too many.
 span : (d : tie.Else1) → isBankErase (d .before .before .args .o) ≡ false

@@ -1,8 +1,8 @@
--- `answers::page_answer` meets its contract. Assumes nothing.
+-- `spans::page_answer` meets its contract. Assumes nothing.
 use borrow.Author.Needs.{needs}
 use Rattle.spans.proofs.OnePage.{answer-one}
-use Rattle.answers.proofs.page_answer.Statement.{statement}
-use Rattle.answers.proofs.page_answer.Tie as tie
+use Rattle.spans.proofs.page_answer.Statement.{statement}
+use Rattle.spans.proofs.page_answer.Tie as tie
 
 pub page-answer-spec : {M : Type 1} → statement M
 page-answer-spec =

@@ -1,8 +1,8 @@
--- `answers::bank_closed` meets its contract. Assumes nothing.
+-- `spans::bank_closed` meets its contract. Assumes nothing.
 use borrow.Author.Needs.{needs}
-use Rattle.answers.proofs.Permissions.{permission-of}
-use Rattle.answers.proofs.bank_closed.Statement.{statement}
-use Rattle.answers.proofs.bank_closed.Tie as tie
+use Rattle.spans.proofs.Permissions.{permission-of}
+use Rattle.spans.proofs.bank_closed.Statement.{statement}
+use Rattle.spans.proofs.bank_closed.Tie as tie
 
 pub bank-closed-spec : {M : Type 1} → statement M
 bank-closed-spec =

@@ -1,12 +1,12 @@
--- `answers::span_answer` meets its contract. Assumes nothing.
+-- `spans::span_answer` meets its contract. Assumes nothing.
 use Prim.Native.Nat.{_<_, _≤_}
 use borrow.Author.Tests.{lt-ltb, le-ltb}
 use borrow.Author.Needs.{needs}
 use Rattle.model.specs.Places.{spanWords}
 use Rattle.model.specs.Rights.{allowedWords, denied, deciderOf}
 use Rattle.registers.specs.Registers.{standsFor}
-use Rattle.answers.proofs.span_answer.Statement.{statement}
-use Rattle.answers.proofs.span_answer.Tie as tie
+use Rattle.spans.proofs.span_answer.Statement.{statement}
+use Rattle.spans.proofs.span_answer.Tie as tie
 
 returns : tie.Need-returns
 unfolding denied deciderOf

@@ -1,8 +1,8 @@
--- `answers::bank_answer` meets its contract. Assumes nothing.
+-- `spans::bank_answer` meets its contract. Assumes nothing.
 use Rattle.model.specs.Rights.{denied, deciderOf}
 use Rattle.registers.specs.Registers.{standsFor}
-use Rattle.answers.proofs.bank_answer.Statement.{statement}
-use Rattle.answers.proofs.bank_answer.Tie as tie
+use Rattle.spans.proofs.bank_answer.Statement.{statement}
+use Rattle.spans.proofs.bank_answer.Tie as tie
 
 pub bank-answer-spec : {M : Type 1} → statement M
 unfolding denied deciderOf standsFor
