@@ -16,5 +16,5 @@ begin-spec =
     (λ c κs. tt)
     (λ c κs. (c .before .before .before .pre, going (c .before)))
     (λ c κs. tt)
-    (λ c. rw (c .put-running .ensures, c .before .before .readable .ensures) (begin-starts (c .before .before .before .before .before .before .pre) (going (c .before .before .before .before))))
+    (λ c. simp (c .put-running .ensures, c .before .before .readable .ensures) (begin-starts (c .before .before .before .before .before .before .pre) (going (c .before .before .before .before))))
     (λ c. begin-stays (c .before .before .pre) (sym (c .before .starts .ensures) ∙ c .if1 .left)))

@@ -9,4 +9,4 @@ ready-spec =
     (λ c κs. tt)
     (λ c κs. tt)
     (λ c κs. tt)
-    (λ c. rw (c .ready-answer .ensures, c .before .phase .ensures, c .before .before .valid .ensures) (ready-same _ _ (λ e. e))))
+    (λ c. simp (c .ready-answer .ensures, c .before .phase .ensures, c .before .before .valid .ensures) (ready-same _ _ (λ e. e))))

@@ -10,4 +10,4 @@ ready-with-spec =
     (λ c κs. tt)
     (λ c κs. tt)
     (λ c κs. tt)
-    (λ c. rw (c .ready-answer .ensures, c .before .phase .ensures, c .before .before .valid-with .ensures) (ready-same _ _ (with-valid _ _))))
+    (λ c. simp (c .ready-answer .ensures, c .before .phase .ensures, c .before .before .valid-with .ensures) (ready-same _ _ (with-valid _ _))))
