@@ -55,16 +55,17 @@ returns-2 c =
     let l = t .before .before .before .before in
     let s = l .before .before .before .before in
     let no : accepts (s .args .answer) ≡ false = sym (l .before .accepts .ensures) ∙ l .if1 .left in
+    let shown = rw (denied t) at (m .before .before .before .before .readable .ensures) in
     rw (
       c .told .ensures,
       c .before .put-errors .ensures,
       m .read .ensures .0,
       m .read .ensures .1,
-      m .before .before .before .before .readable .ensures,
       t .before .before .recorded .ensures,
       no,
       denied t,
       and-left (isRead (s .args .o)) _ (denied t),
+      ← shown,
     )
     (left-denied _ (flash (s .args .image .now)) (s .args .o) (s .args .buffer .now) (s .pre .0 .encodes) (s .args .answer) (s .pre .1) no _ _)
 
