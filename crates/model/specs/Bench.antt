@@ -7,10 +7,10 @@ use lib.Dec.{eqb}
 use lib.ListN.{getD, replicate}
 use Rattle.model.specs.Geometry.{infoCount, byteAddress, firstWord, dataImagePage, specialPage, creatorPage}
 use Rattle.model.specs.Words.{allOnes}
-use Rattle.model.specs.State.{Flash, flash, Leaves, stored, resetController, withPhase, withErrors, withQueues, withProgress, withPhysical}
+use Rattle.model.specs.State.{Flash, flash, Leaves, stored, resetController, withSetup, withSettings, withPhase, withErrors, withQueues, withProgress, withPhysical}
 use Rattle.model.specs.Rights.{readableWords}
 use Rattle.model.specs.Refusals.{numberOf, reported}
-use Rattle.model.specs.Settings.{setInputs, setRegion, setDefault, setInfo, setErase}
+use Rattle.model.specs.Settings.{setInputs, setRegion, withDefault, setDefault, setInfo, setErase}
 use Rattle.model.specs.Lifecycle.{reset, initialise}
 use Rattle.model.specs.Steps.{start, push, step}
 use Rattle.model.specs.Whole.{whole}
@@ -245,6 +245,10 @@ cutReads =
 
 -- ---- valid states, and for each sentence on them one that is not valid (01: 'a state is ours exactly if ..'; 02, L1)
 
+-- So many data pages a bank.
+abbrev pub ofPages : ℕ → Controller → Controller
+ofPages d c = withSetup c (record { pages = d; inputs = c .setup .inputs; settings = c .setup .settings })
+
 -- So many words in the queues.
 abbrev pub queued : ℕ → ℕ → Controller → Controller
 queued reads programs c =
@@ -254,15 +258,15 @@ queued reads programs c =
       programs = record { words = replicate 16 0; len = programs };
     })
 
--- A page erase, a program of three words and a read of two in progress, with so many words moved.
+-- A page erase, a program of three words and a read of two in progress, with so many words moved, and of the read so many readable.
 abbrev pub erasing : ℕ → Controller → Controller
 erasing moved c = withProgress c (Running (Erase (op 2 0 0 0 0) moved))
 
 abbrev pub programming : ℕ → Controller → Controller
 programming moved c = withProgress c (Running (Program (op 1 0 0 0 3) moved))
 
-abbrev pub reading : ℕ → Controller → Controller
-reading moved c = withProgress c (Running (Read (op 0 0 0 0 2) moved 2))
+abbrev pub reading : ℕ → ℕ → Controller → Controller
+reading moved readable c = withProgress c (Running (Read (op 0 0 0 0 2) moved readable))
 
 -- The address of the last error, and whether a malformed operation was recorded.
 abbrev pub lastError : Bool → ℕ → Controller → Controller
@@ -275,29 +279,35 @@ lost n c = withPhysical c (record { lost = 0 ∷ n ∷ [] })
 
 unfoldable pub validStates : List Controller
 validStates =
-    queued 16 0 bench
+    ofPages 10 bench
+    ∷ queued 16 0 bench
     ∷ withPhase bench Disabled
     ∷ erasing 255 bench
     ∷ queued 0 2 (programming 1 bench)
-    ∷ reading 1 bench
+    ∷ reading 1 2 bench
     ∷ lastError true 4 bench
     ∷ lost 5 bench
     ∷ []
 
 unfoldable pub invalidStates : List Controller
 invalidStates =
+    -- D is 10 to 256, and the settings pass 13.
+    ofPages 9 bench
+    ∷ withSettings bench (withDefault (bench .setup .settings) 8)
     -- Queues hold at most 16 words, and none unless ready.
-    queued 17 0 bench
+    ∷ queued 17 0 bench
     ∷ withPhase (queued 1 0 bench) Disabled
     -- An operation is in progress only when ready, has words left to move, and passes 5, 7, 8 and 9.
     ∷ withPhase (erasing 0 bench) Disabled
     ∷ erasing 256 bench
     ∷ erasing 0 nothingGiven
+    -- A read is there with exactly the number of its true words.
+    ∷ reading 0 1 bench
     -- At most n words are pushed in all, and none with no program in progress.
     ∷ queued 0 3 (programming 1 bench)
     ∷ queued 0 1 bench
     ∷ queued 0 1 (erasing 0 bench)
-    ∷ queued 0 1 (reading 0 bench)
+    ∷ queued 0 1 (reading 0 2 bench)
     -- The last address is 0 if no kind is recorded.
     ∷ lastError false 4 bench
     -- A lost count is at most 5.
