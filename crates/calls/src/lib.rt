@@ -1,5 +1,6 @@
 // What C and Rust hand in and what the calls hand back: small structs of numbers. specs/Calls.antt says what each call tells
 // and leaves.
+#![tactic(auto)]
 ghost use Rattle.std.specs.Prelude.{◌≡◌};
 ghost use Rattle.model.specs.Refusals.{number_of, reported};
 ghost use Rattle.registers.specs.Registers.{is_on};
@@ -13,7 +14,7 @@ use model::{
 // ---- what is handed in
 
 #[repr(C)]
-#[derive(Drop)]
+#[derive(Clone, Copy)]
 pub struct AskedRegion {
     pub first: u32,
     pub count: u32,
@@ -22,14 +23,14 @@ pub struct AskedRegion {
 }
 
 #[repr(C)]
-#[derive(Drop)]
+#[derive(Clone, Copy)]
 pub struct AskedSetting {
     pub on: u32,
     pub rights: u32,
 }
 
 #[repr(C)]
-#[derive(Drop)]
+#[derive(Clone, Copy)]
 pub struct AskedOperation {
     pub address: u32,
     pub count: u32,
@@ -109,7 +110,7 @@ pub fn host_request(asks: u32, address: u32) -> HostRequest
 
 // `decider` stands beside every answer that can be 9: it is the number of who decided, or 255.
 #[repr(C)]
-#[derive(Drop)]
+#[derive(Clone, Copy)]
 pub struct ToldAnswer {
     pub answer: u32,
     pub decider: u32,
@@ -117,14 +118,14 @@ pub struct ToldAnswer {
 
 // Of a pop, and of a host read.
 #[repr(C)]
-#[derive(Drop)]
+#[derive(Clone, Copy)]
 pub struct ToldWord {
     pub answer: u32,
     pub word: u32,
 }
 
 #[repr(C)]
-#[derive(Drop)]
+#[derive(Clone, Copy)]
 pub struct ToldHostWord {
     pub answer: u32,
     pub decider: u32,
@@ -132,7 +133,7 @@ pub struct ToldHostWord {
 }
 
 #[repr(C)]
-#[derive(Drop)]
+#[derive(Clone, Copy)]
 pub struct ToldStep {
     pub answer: u32,
     pub movement: u32,
@@ -140,7 +141,7 @@ pub struct ToldStep {
 }
 
 #[repr(C)]
-#[derive(Drop)]
+#[derive(Clone, Copy)]
 pub struct ToldBits {
     pub answer: u32,
     pub decider: u32,
@@ -149,7 +150,7 @@ pub struct ToldBits {
 
 // What a round tells the host and the step.
 #[repr(C)]
-#[derive(Drop)]
+#[derive(Clone, Copy)]
 pub struct ToldHostTurn {
     pub turn: u32,
     pub answer: u32,
@@ -158,7 +159,7 @@ pub struct ToldHostTurn {
 }
 
 #[repr(C)]
-#[derive(Drop)]
+#[derive(Clone, Copy)]
 pub struct ToldStepTurn {
     pub turn: u32,
     pub answer: u32,
@@ -167,7 +168,7 @@ pub struct ToldStepTurn {
 }
 
 #[repr(C)]
-#[derive(Drop)]
+#[derive(Clone, Copy)]
 pub struct ToldRound {
     pub host: ToldHostTurn,
     pub step: ToldStepTurn,
@@ -175,7 +176,7 @@ pub struct ToldRound {
 
 // Where a view starts in the image.
 #[repr(C)]
-#[derive(Drop)]
+#[derive(Clone, Copy)]
 pub struct ToldStart {
     pub answer: u32,
     pub decider: u32,
@@ -184,7 +185,7 @@ pub struct ToldStart {
 
 // `given` is 1 if the seeds were handed out, else 0.
 #[repr(C)]
-#[derive(Drop)]
+#[derive(Clone, Copy)]
 pub struct ToldSeeds {
     pub answer: u32,
     pub creator: [u32; 8],

@@ -1,6 +1,7 @@
 // The calls for C and Rust: the registers where they lie, and plain numbers and slices beside them. include/lurgabel.h declares
 // them and has the calls that a bench uses. A name carries the layout's number, so that a library which does not fit the header
 // does not link.
+#![tactic(auto)]
 ghost use Rattle.std.specs.Prelude.{◌≡◌};
 ghost use Rattle.model.specs.State.{flash};
 ghost use Rattle.registers.specs.Registers.{is_on};

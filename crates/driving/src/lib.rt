@@ -1,5 +1,6 @@
 // A whole operation by its public calls, for at most so many steps: where they do not reach, the power is cut and the operation
 // stays in progress. specs/Drives.antt says what is left.
+#![tactic(auto)]
 ghost use Rattle.std.specs.Prelude.{◌≡◌, ◌+◌, ◌≤◌, ◌<◌, min, length};
 ghost use Rattle.model.specs.State.{flash};
 ghost use Rattle.model.specs.Refusals.{number_of, reported};
@@ -10,7 +11,7 @@ use registers::Registers;
 
 // What is told: the answer and who decided, the bits changed, the steps left, and whether the power was cut.
 #[repr(C)]
-#[derive(Drop)]
+#[derive(Clone, Copy)]
 pub struct Driven {
     pub answer: u32,
     pub decider: u32,

@@ -1,4 +1,5 @@
 // The expansion of a bench sheet: where the tags of the entries stand that it runs, in order, each repeat as often as it says.
+#![tactic(auto)]
 ghost use Rattle.std.specs.Prelude.{◌≡◌, cond, eqb};
 ghost use Rattle.std.proofs.lemmas.List.Edits.{sets};
 ghost use Rattle.numbers.specs.Number.{number_to};
@@ -12,7 +13,7 @@ use sheets::{MAX_RIGHTS, MAX_TIMES, OPERATION, REPEAT, WIDE_MAX_ENTRIES};
 pub type Places = [usize; WIDE_MAX_ENTRIES];
 
 // The place after a block or an entry, and how many places are laid.
-#[derive(Drop)]
+#[derive(Clone, Copy)]
 pub struct Laid {
     pub next: usize,
     pub count: usize,

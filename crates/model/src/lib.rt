@@ -1,5 +1,6 @@
 // The types of the model: what a caller hands in, what the controller holds, and what a call answers.
 // What each call does is defined in specs/. There are no functions here.
+#![tactic(auto)]
 
 // ---- numbers that code shares, as specs/ has them; `WIDE` ones are for sums that pass 32 bits
 
@@ -50,25 +51,25 @@ pub const INFO_SETTINGS: usize = 2 * WIDE_INFO_PAGES;
 // ---- places
 
 // A page as byte addresses count it: address / 1,024. The data pages are 0 to 2D - 1 over both banks.
-#[derive(Drop)]
+#[derive(Clone, Copy)]
 pub struct Page(pub u32);
 
 // A page as the image counts it: 0 to 2(D + 13) - 1.
-#[derive(Drop)]
+#[derive(Clone, Copy)]
 pub struct ImagePage(pub u32);
 
 // A bus word of the image, counted from its start.
-#[derive(Drop)]
+#[derive(Clone, Copy)]
 pub struct BusWord(pub u32);
 
 // A byte address, as operations and host reads give it.
-#[derive(Drop)]
+#[derive(Clone, Copy)]
 pub struct ByteAddress(pub u32);
 
 // ---- the state
 
 // Reset leaves Uninitialised (01: fresh), initialise Ready, RMA Disabled (01: shut).
-#[derive(Drop)]
+#[derive(Clone, Copy)]
 pub enum Phase {
     Uninitialised,
     Ready,
@@ -76,14 +77,14 @@ pub enum Phase {
 }
 
 // The life-cycle inputs.
-#[derive(Drop)]
+#[derive(Clone, Copy)]
 pub struct Inputs {
     pub provision: bool,
     pub locked: bool,
 }
 
 // A memory protection region: `count` data pages from `first` on.
-#[derive(Drop)]
+#[derive(Clone, Copy)]
 pub struct Region {
     pub on: bool,
     pub first: Page,
@@ -92,14 +93,14 @@ pub struct Region {
 }
 
 // The setting of one information page.
-#[derive(Drop)]
+#[derive(Clone, Copy)]
 pub struct PageSetting {
     pub on: bool,
     pub rights: u8,
 }
 
 // What the setting calls set. `info` has 13 pages of bank 0, then 13 of bank 1; `erase` a permission for each bank.
-#[derive(Drop)]
+#[derive(Clone, Copy)]
 pub struct Settings {
     pub regions: [Region; 8],
     pub default_rights: u8,
@@ -108,7 +109,7 @@ pub struct Settings {
 }
 
 // The error record: the recorded kinds (refusals 5, 7, 8 and 9), and the address of the last one.
-#[derive(Drop)]
+#[derive(Clone, Copy)]
 pub struct Errors {
     pub malformed: bool,
     pub range: bool,
@@ -118,20 +119,20 @@ pub struct Errors {
 }
 
 // A queue of bus words. It holds the first `len` of `words`, oldest first; the places after them are no part of it.
-#[derive(Drop)]
+#[derive(Clone, Copy)]
 pub struct Queue {
     pub words: [u32; WIDE_QUEUE_WORDS],
     pub len: u32,
 }
 
-#[derive(Drop)]
+#[derive(Clone, Copy)]
 pub struct Queues {
     pub reads: Queue,
     pub programs: Queue,
 }
 
 // An operation as a caller asks for it: `info` is the information type, `count` the number n of bus words.
-#[derive(Drop)]
+#[derive(Clone, Copy)]
 pub struct Operation {
     pub kind: u8,
     pub partition: u8,
@@ -142,7 +143,7 @@ pub struct Operation {
 
 // An operation that was started, and how many of its words have moved. Of a read, the first `readable` words are
 // the true ones, those before its first denied page, and the others are ones.
-#[derive(Drop)]
+#[derive(Clone, Copy)]
 pub enum Work {
     Read {
         op: Operation,
@@ -160,7 +161,7 @@ pub enum Work {
 }
 
 // What is in progress.
-#[derive(Drop)]
+#[derive(Clone, Copy)]
 pub enum Progress {
     Idle,
     Running(Work),
@@ -168,7 +169,7 @@ pub enum Progress {
 
 // What checks 5, 7, 8 and 9 of an operation look at: `pages` is D, the number of data pages in each bank. Only reset, the
 // inputs and the settings change it.
-#[derive(Drop)]
+#[derive(Clone, Copy)]
 pub struct Setup {
     pub pages: u32,
     pub inputs: Inputs,
@@ -176,13 +177,13 @@ pub struct Setup {
 }
 
 // What the flash physical controller keeps (001): for each bank, how often the controller lost its turn to the host.
-#[derive(Drop)]
+#[derive(Clone, Copy)]
 pub struct Physical {
     pub lost: [u32; 2],
 }
 
 // The whole state.
-#[derive(Drop)]
+#[derive(Clone, Copy)]
 pub struct Controller {
     pub setup: Setup,
     pub phase: Phase,
@@ -196,7 +197,7 @@ pub struct Controller {
 
 // Who decides what may be done: of a data page the region of that number or the default rights, of an information page its
 // setting or the seed lock, and of a bank erase the bank's permission. (02, L2)
-#[derive(Drop)]
+#[derive(Clone, Copy)]
 pub enum Decider {
     Region(u8),
     Default,
@@ -206,7 +207,7 @@ pub enum Decider {
 }
 
 // What the look-up of rights answers for a page.
-#[derive(Drop)]
+#[derive(Clone, Copy)]
 pub struct Ruling {
     pub rights: u8,
     pub decider: Decider,
@@ -216,7 +217,7 @@ pub struct Ruling {
 
 // A call's answer: accepted, or the refusal. Where access is denied, it says who decided.
 // specs/Refusals.antt gives each its number in 01, and what it reports.
-#[derive(Drop)]
+#[derive(Clone, Copy)]
 pub enum Answer {
     Accepted,
     Invalid,
@@ -235,7 +236,7 @@ pub enum Answer {
 }
 
 // What a step did: nothing since it was refused, a word moved, the last word moved, or nothing yet (01: waiting).
-#[derive(Drop)]
+#[derive(Clone, Copy)]
 pub enum Movement {
     None,
     Moved,
@@ -244,14 +245,14 @@ pub enum Movement {
 }
 
 // Of reset, the inputs, the settings, start, push, clear and RMA.
-#[derive(Drop)]
+#[derive(Clone, Copy)]
 pub struct Outcome {
     pub controller: Controller,
     pub answer: Answer,
 }
 
 // Of pop and host read.
-#[derive(Drop)]
+#[derive(Clone, Copy)]
 pub struct Fetched {
     pub controller: Controller,
     pub answer: Answer,
@@ -259,7 +260,7 @@ pub struct Fetched {
 }
 
 // Of step.
-#[derive(Drop)]
+#[derive(Clone, Copy)]
 pub struct Stepped {
     pub controller: Controller,
     pub answer: Answer,
@@ -268,28 +269,28 @@ pub struct Stepped {
 }
 
 // What the host asks in a round.
-#[derive(Drop)]
+#[derive(Clone, Copy)]
 pub enum HostRequest {
     Nothing,
     Word(ByteAddress),
 }
 
 // Of each side of a round: it asked nothing, it waits for its turn, or it was answered by its own call.
-#[derive(Drop)]
+#[derive(Clone, Copy)]
 pub enum Turn {
     Unasked,
     Waiting,
     Served,
 }
 
-#[derive(Drop)]
+#[derive(Clone, Copy)]
 pub struct HostTurn {
     pub turn: Turn,
     pub answer: Answer,
     pub word: u32,
 }
 
-#[derive(Drop)]
+#[derive(Clone, Copy)]
 pub struct StepTurn {
     pub turn: Turn,
     pub answer: Answer,
@@ -298,7 +299,7 @@ pub struct StepTurn {
 }
 
 // Of a round.
-#[derive(Drop)]
+#[derive(Clone, Copy)]
 pub struct Rounded {
     pub controller: Controller,
     pub host: HostTurn,
@@ -306,7 +307,7 @@ pub struct Rounded {
 }
 
 // The creator and the owner seed, or zeros where none are handed out.
-#[derive(Drop)]
+#[derive(Clone, Copy)]
 pub struct Seeds {
     pub given: bool,
     pub creator: [u32; 8],
@@ -314,7 +315,7 @@ pub struct Seeds {
 }
 
 // Of initialise.
-#[derive(Drop)]
+#[derive(Clone, Copy)]
 pub struct Initialised {
     pub controller: Controller,
     pub answer: Answer,
@@ -322,7 +323,7 @@ pub struct Initialised {
 }
 
 // Of a whole operation: the bits are the sum over its steps.
-#[derive(Drop)]
+#[derive(Clone, Copy)]
 pub struct Completed {
     pub controller: Controller,
     pub answer: Answer,

@@ -1,9 +1,10 @@
 // Numbers in bytes, as bench sheets have them: a value or the place of a fault. specs/Number.antt says what stands where.
+#![tactic(auto)]
 ghost use Rattle.std.specs.Prelude.{◌≡◌, ◌+◌, ◌≤◌, ◌<◌, length};
 ghost use Rattle.numbers.specs.Number.{last_group, groups_value, number_at, number_to, then_number, then_numbers, value_of, next_of};
 
 // What stands at a place: a number, and the place after it; or the place that is bad.
-#[derive(Drop)]
+#[derive(Clone, Copy)]
 pub enum Parsed {
     Number { value: u32, next: usize },
     Bad(usize),

@@ -1,4 +1,5 @@
 // Push and pop: an operation's words go in and out through the queues, on registers.
+#![tactic(auto)]
 ghost use Rattle.std.specs.Prelude.{◌≡◌, ◌+◌, leb};
 ghost use Rattle.calls.specs.Calls.{push_in, pop_in};
 

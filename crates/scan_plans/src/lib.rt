@@ -1,4 +1,5 @@
 // What the next write and the next take do. Only words are looked at: no call of the controller is made.
+#![tactic(auto)]
 ghost use Rattle.std.specs.Prelude.{◌≡◌, ◌+◌, ◌≤◌, ◌<◌, length, take, drop};
 ghost use Rattle.scan_queue.specs.Slots.{Pages, places, queue};
 ghost use Rattle.scan_plans.specs.Plans.{Decided, OldestIs, padded};
@@ -9,7 +10,7 @@ use slots::{Body, Found};
 pub type ScanBytes = [u8; WIDE_MAX_LENGTH];
 
 // Refused with a number; put into the slot at a word; or put into the first slot of the page at a word, which is erased first.
-#[derive(Drop)]
+#[derive(Clone, Copy)]
 pub enum WritePlan {
     Refused(u32),
     Puts { place: usize, serial: u32 },
@@ -17,7 +18,7 @@ pub enum WritePlan {
 }
 
 // The oldest waiting scan, and the word of its slot.
-#[derive(Drop)]
+#[derive(Clone, Copy)]
 pub enum TakePlan {
     Nothing,
     Takes { place: usize, found: Found },

@@ -1,5 +1,6 @@
 // The scan queue in the words of two pages: what slots hold and what waits, what a write and a take do, and that no cut of the power
 // loses a scan. It is stated in specs/, with laws in proofs/. There are no functions here.
+#![tactic(auto)]
 
 // Words 2 to 15 of a slot have 56 bytes.
 pub const PAYLOAD_BYTES: usize = 56;

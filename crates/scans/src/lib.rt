@@ -1,4 +1,5 @@
 // The scan queue on registers: a write and a take. specs/Scans.antt says what each tells and leaves.
+#![tactic(auto)]
 ghost use Rattle.std.specs.Prelude.{◌≡◌, [], ◌∷◌, ◌+◌, ◌≤◌, ◌<◌, length, take, drop};
 ghost use Rattle.model.specs.State.{flash};
 ghost use Rattle.scan_queue.specs.Decisions.{refusal_of};
@@ -14,7 +15,7 @@ use scan_queue::WIDE_MAX_LENGTH;
 use slots::Found;
 
 // What whole operations told, all in all: the steps left, and whether the power was cut.
-#[derive(Drop)]
+#[derive(Clone, Copy)]
 pub struct Made {
     pub left: u32,
     pub cut: u32,
@@ -22,14 +23,14 @@ pub struct Made {
 
 // `cut` is 1 if the steps did not reach to the end, else 0.
 #[repr(C)]
-#[derive(Drop)]
+#[derive(Clone, Copy)]
 pub struct ToldWrite {
     pub answer: u32,
     pub cut: u32,
 }
 
 #[repr(C)]
-#[derive(Drop)]
+#[derive(Clone, Copy)]
 pub struct ToldScan {
     pub answer: u32,
     pub cut: u32,

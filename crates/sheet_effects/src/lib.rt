@@ -1,8 +1,9 @@
 // What the run of a bench sheet does and leaves: stated in specs/, with laws in proofs/. There are no functions here.
+#![tactic(auto)]
 use sheets::Verdict;
 
 // What an entry prints, if it is an operation.
-#[derive(Drop)]
+#[derive(Clone, Copy)]
 pub struct Line {
     pub prints: bool,
     pub answer: u32,
@@ -10,7 +11,7 @@ pub struct Line {
 }
 
 // The verdict, and how many numbers were written to the row.
-#[derive(Drop)]
+#[derive(Clone, Copy)]
 pub struct Ran {
     pub verdict: Verdict,
     pub numbers: u32,

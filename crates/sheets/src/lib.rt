@@ -1,4 +1,5 @@
 // Bench sheets: their types and limits; what they mean is stated in specs/, with laws in proofs/. There are no functions here.
+#![tactic(auto)]
 use model::Operation;
 use numbers::Parsed;
 
@@ -23,7 +24,7 @@ pub const RIGHTS: u32 = 3;
 
 // Entry 1 as the sheet states it: `words` is the place of the first word that it carries, `end` its last number. The operation and
 // that place are of use only where `end` is not bad.
-#[derive(Drop)]
+#[derive(Clone, Copy)]
 pub struct Stated {
     pub op: Operation,
     pub words: usize,
@@ -31,14 +32,14 @@ pub struct Stated {
 }
 
 // What an entry asks for: a whole operation, or default rights.
-#[derive(Drop)]
+#[derive(Clone, Copy)]
 pub enum Request {
     Whole { op: Operation, words: usize },
     Rights(u8),
 }
 
 // Good with the number of entries that run, or refused with the place where it is bad.
-#[derive(Drop)]
+#[derive(Clone, Copy)]
 pub enum Verdict {
     Good(u32),
     Refused(usize),

@@ -1,5 +1,6 @@
 // The reader of a slot of the scan queue: what its 16 words mean. scan_queue/specs/Slots.antt says it, specs/Code.antt what is
 // handed back.
+#![tactic(auto)]
 ghost use Rattle.std.specs.Prelude.{◌≡◌, ◌+◌, ◌≤◌, ◌<◌, length, get_or, drop};
 ghost use Rattle.numbers.specs.declared.Parsed.TheVariants as parsed;
 ghost use Rattle.scan_queue.specs.Payload.{all, body_of, payload_of};
@@ -12,21 +13,21 @@ use scan_queue::{MAX_LENGTH, MAX_SERIAL, PAYLOAD_BYTES};
 pub type Payload = [u8; PAYLOAD_BYTES];
 
 // A scan that was found: its serial, and where its bytes stand among the 56.
-#[derive(Drop)]
+#[derive(Clone, Copy)]
 pub struct Found {
     pub serial: u32,
     pub start: usize,
     pub count: usize,
 }
 
-#[derive(Drop)]
+#[derive(Clone, Copy)]
 pub enum Body {
     Broken,
     Whole(Found),
 }
 
 // `Odd` is sealed with a mark that is neither all ones nor 0.
-#[derive(Drop)]
+#[derive(Clone, Copy)]
 pub enum Class {
     Unused,
     Dead,

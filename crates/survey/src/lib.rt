@@ -1,4 +1,5 @@
 // One look at the slots of the queue's pages, from the last to the first. specs/Survey.antt says what it tells.
+#![tactic(auto)]
 ghost use Rattle.std.specs.Prelude.{◌≡◌, cond, [], ◌+◌, ◌≤◌, ◌<◌, length};
 ghost use Rattle.scan_queue.specs.Slots.{slots_from, places};
 ghost use Rattle.slots.specs.Code.{toSlot};
@@ -8,7 +9,7 @@ use slots::Class;
 
 // The highest sealed serial, 0 if there is none; whether a slot is unused, and the lowest such place; whether a scan waits, the
 // place of the oldest and its serial. A place or serial of what is not there is 0.
-#[derive(Drop)]
+#[derive(Clone, Copy)]
 pub struct Survey {
     pub highest: u32,
     pub vacant: bool,

@@ -3,7 +3,7 @@ use model::Operation;
 use registers::Registers;
 
 // `word` is the last one popped, or the first of a whole operation's buffer; `steps` counts those that moved a word.
-#[derive(Drop)]
+#[derive(Clone, Copy)]
 pub struct Run {
     pub answer: u32,
     pub decider: u32,

@@ -1,4 +1,6 @@
 // A bus word of the image: what a read delivers of it, what programming and erasing make of it, and how many bits that changes.
+#![tactic(auto)]
+
 ghost use Rattle.std.specs.Prelude.{◌≡◌, ◌<◌, ◌≤◌, length, get_or, set};
 ghost use Rattle.model.specs.State.{flash};
 ghost use Rattle.model.specs.Steps.{delivered, read_word};

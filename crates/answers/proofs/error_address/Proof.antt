@@ -11,7 +11,7 @@ use Rattle.answers.proofs.error_address.Tie as tie
 
 -- In the branch of a denied read.
 told : (c : tie.Then1) → let a = c.before.before.args in is_denied_read a.o (number_of a.answer) ≡ true
-told c = sym c.before.is_denied_read.ensures ∙ c.if1.true
+told c = sym c.before.is_denied_read.ensures ∙ c.if-is_denied_read.true
 
 pub error_address_spec : {M : Type 1} → statement M
 unfolding error_address readable_words
@@ -23,6 +23,6 @@ error_address_spec =
     (λ c.
     let s = c.before.before.before.before in
     let at = denied_read_address _ _ s.requires.answered (told c.before.before) s.requires.pages.0 s.requires.pages.1 in
-    omega (arith, c.before.allowed_words.ensures, c.span_address.ensures.0))
-    (λ c. simp (told c.before.before, c.span_address.ensures.0, c.before.allowed_words.ensures))
-    (λ c. rw (sym c.before.before.is_denied_read.ensures ∙ c.before.if1.false)))
+    omega (arith, c.before.allowed_words-before.ensures, c.span_address-first_denied.ensures.0))
+    (λ c. simp (told c.before.before, c.span_address-first_denied.ensures.0, c.before.allowed_words-before.ensures))
+    (λ c. rw (sym c.before.before.is_denied_read.ensures ∙ c.before.if-is_denied_read.false)))

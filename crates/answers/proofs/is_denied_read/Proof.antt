@@ -7,4 +7,4 @@ is_denied_read_spec =
     tie.close (tie.spec
     (λ c κs. tt)
     (λ c κs. tt)
-    (λ c. rw (c.is_denied.ensures, c.before.is_read.ensures)))
+    (λ c. rw (c.is_denied-denied.ensures, c.before.is_read-read.ensures)))

@@ -13,33 +13,33 @@ use Rattle.answers.proofs.operation_answer.Tie as tie
 
 -- What passed check 5 is well formed.
 formed : (d : tie.After-accepts) → not d.accepts.result ≡ false → malformed d.before.before.before.args.o ≡ false
-formed d h = check_passed _ Malformed refl (rw d.before.form_answer.ensures at (sym d.accepts.ensures ∙ not-false _ h))
+formed d h = check_passed _ Malformed refl (rw d.before.form_answer-form.ensures at (sym d.accepts.ensures ∙ not-false _ h))
 
 -- What the test for check 7 answered.
 outside : (d : tie.After-out-of-range) →
     let a = d.before.before.before.before.before.args in
     d.out_of_range.result ≡ out_of_range (get_or a.s.now pages_at 0) a.o
-outside d = rw d.before.before.before.before.pages.ensures at d.out_of_range.ensures
+outside d = rw d.before.before.before.before.pages-d.ensures at d.out_of_range.ensures
 
-returns_2 : tie.Need-returns-2
+returns_2 : tie.Need-returns-then-out_of_range
 unfolding operation_answer stands_for
 returns_2 c =
     let r = c.before in
-    rw (formed r.before.before r.before.if1.false, sym (outside r) ∙ c.if2.true)
+    rw (formed r.before.before r.before.if-not-accepts.false, sym (outside r) ∙ c.if-out_of_range.true)
 
-returns_3 : tie.Need-returns-3
+returns_3 : tie.Need-returns-then-crosses_window
 unfolding operation_answer stands_for
 returns_3 c =
     let w = c.before in
     let r = w.before.before in
-    rw (formed r.before.before r.before.if1.false, sym (outside r) ∙ w.before.if2.false, sym w.crosses_window.ensures ∙ c.if3.true)
+    rw (formed r.before.before r.before.if-not-accepts.false, sym (outside r) ∙ w.before.if-out_of_range.false, sym w.crosses_window.ensures ∙ c.if-crosses_window.true)
 
-returns_4 : tie.Need-returns-4
+returns_4 : tie.Need-returns
 unfolding operation_answer stands_for
 returns_4 c =
     let w = c.before.before in
     let r = w.before.before in
-    rw (formed r.before.before r.before.if1.false, sym (outside r) ∙ w.before.if2.false, sym w.crosses_window.ensures ∙ c.before.if3.false)
+    rw (formed r.before.before r.before.if-not-accepts.false, sym (outside r) ∙ w.before.if-out_of_range.false, sym w.crosses_window.ensures ∙ c.before.if-crosses_window.false)
     c.right_answer.ensures
 
 pub operation_answer_spec : {M : Type 1} → statement M
@@ -49,10 +49,10 @@ operation_answer_spec =
     (λ c κs. tt)
     (λ c κs. tt)
     (λ c κs. tt)
-    (λ c. simp (c.before.before.form_answer.ensures, rw c.before.before.form_answer.ensures at (sym c.before.accepts.ensures ∙ not-true _ c.if1.true)))
+    (λ c. simp (c.before.before.form_answer-form.ensures, rw c.before.before.form_answer-form.ensures at (sym c.before.accepts.ensures ∙ not-true _ c.if-not-accepts.true)))
     (λ c κs. tt)
     returns_2
-    (λ c κs. let r = c.before in formed r.before.before r.before.if1.false)
+    (λ c κs. let r = c.before in formed r.before.before r.before.if-not-accepts.false)
     returns_3
-    (λ c κs. let r = c.before.before.before in formed r.before.before r.before.if1.false)
+    (λ c κs. let r = c.before.before.before in formed r.before.before r.before.if-not-accepts.false)
     returns_4)

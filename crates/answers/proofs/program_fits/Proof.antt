@@ -16,12 +16,12 @@ use Rattle.answers.proofs.program_fits.Statement.{statement}
 use Rattle.answers.proofs.program_fits.Tie as tie
 
 -- What passed the first test is a program, and well formed.
-asked : (d : tie.After-accepts) → not (d.before.before.is_program.result && d.accepts.result) ≡ false →
+asked : (d : tie.After-accepts) → not (d.before.before.is_program-program.result && d.accepts-formed.result) ≡ false →
     let o = d.before.before.before.args.o in
     (is_program o ≡ true) × (malformed o ≡ false)
 asked d h =
-    let p = d.before.before.is_program in
-    let f = d.accepts in
+    let p = d.before.before.is_program-program in
+    let f = d.accepts-formed in
     let both = not-false (p.result && f.result) h in
     (sym p.ensures ∙ and_left p.result f.result both, check_passed _ Malformed refl (rw d.before.form_answer.ensures at (sym f.ensures ∙ and_right p.result f.result both)))
 
@@ -31,37 +31,37 @@ outside : (d : tie.After-out-of-range) →
     d.out_of_range.result ≡ out_of_range (get_or a.s.now pages_at 0) a.o
 outside d = rw d.before.pages.ensures at d.out_of_range.ensures
 
-returns : tie.Need-returns
+returns : tie.Need-returns-then-not-program-formed
 returns c =
     let f = c.before in
-    let p = f.before.before.is_program in
+    let p = f.before.before.is_program-program in
     form_refused _ f.before.before.before.args.o
-    (rw (p.ensures, f.accepts.ensures, f.before.form_answer.ensures) at (not-true (p.result && f.accepts.result) c.if1.true))
+    (rw (p.ensures, f.accepts-formed.ensures, f.before.form_answer.ensures) at (not-true (p.result && f.accepts-formed.result) c.if-not-program-formed.true))
 
-returns_2 : tie.Need-returns-2
+returns_2 : tie.Need-returns-then-out_of_range
 unfolding operation_answer stands_for
 returns_2 c =
     let r = c.before in
-    let k = asked r.before.before.before r.before.before.if1.false in
-    rw (k.0, k.1, sym (outside r) ∙ c.if2.true)
+    let k = asked r.before.before.before r.before.before.if-not-program-formed.false in
+    rw (k.0, k.1, sym (outside r) ∙ c.if-out_of_range.true)
 
-returns_3 : tie.Need-returns-3
+returns_3 : tie.Need-returns-then-crosses_window
 unfolding operation_answer stands_for
 returns_3 c =
     let w = c.before in
     let r = w.before.before in
-    let k = asked r.before.before.before r.before.before.if1.false in
-    rw (k.0, k.1, sym (outside r) ∙ w.before.if2.false, sym w.crosses_window.ensures ∙ c.if3.true)
+    let k = asked r.before.before.before r.before.before.if-not-program-formed.false in
+    rw (k.0, k.1, sym (outside r) ∙ w.before.if-out_of_range.false, sym w.crosses_window.ensures ∙ c.if-crosses_window.true)
 
-returns_4 : tie.Need-returns-4
+returns_4 : tie.Need-returns
 unfolding operation_answer stands_for
 returns_4 c =
     let w = c.before.before.before in
     let r = w.before.before in
-    let k = asked r.before.before.before r.before.before.if1.false in
-    let one = sym w.crosses_window.ensures ∙ c.before.before.if3.false in
+    let k = asked r.before.before.before r.before.before.if-not-program-formed.false in
+    let one = sym w.crosses_window.ensures ∙ c.before.before.if-crosses_window.false in
     let g = rw c.before.page_of.ensures.0 at c.page_grants.ensures in
-    rw (k.0, k.1, sym (outside r) ∙ w.before.if2.false, one, program_denied _ k.0 k.1 one _) (g ∙ by_grant _ _ refl)
+    rw (k.0, k.1, sym (outside r) ∙ w.before.if-out_of_range.false, one, program_denied _ k.0 k.1 one _) (g ∙ by_grant _ _ refl)
 
 pub program_fits_spec : {M : Type 1} → statement M
 program_fits_spec =
@@ -73,7 +73,7 @@ program_fits_spec =
     (λ c κs. tt)
     (λ c κs. tt)
     returns_2
-    (λ c κs. let r = c.before in (asked r.before.before.before r.before.before.if1.false).1)
+    (λ c κs. let r = c.before in (asked r.before.before.before r.before.before.if-not-program-formed.false).1)
     returns_3
     (λ c κs. tt)
     (λ c κs. tt)

@@ -29,15 +29,15 @@ module _ (s : Setup) (o : Operation) (e : Bool) where
 
 -- What the code tests.
 tested : (c : tie.After-out-of-range) → let a = c.before.before.before.before.before.args in
-    (c.before.before.before.before.is_read.result && (c.before.before.accepts.result && not c.out_of_range.result))
+    (c.before.before.before.before.is_read-read.result && (c.before.before.accepts-formed.result && not c.out_of_range-outside.result))
     ≡ Asked (stands_for a.s.now).setup a.o
 unfolding stands_for
 tested c =
     let f = c.before.before in
-    rw (c.out_of_range.ensures, c.before.pages.ensures, f.accepts.ensures, f.before.form_answer.ensures, f.before.before.is_read.ensures, formed)
+    rw (c.out_of_range-outside.ensures, c.before.pages.ensures, f.accepts-formed.ensures, f.before.form_answer.ensures, f.before.before.is_read-read.ensures, formed)
 
 passed : (c : tie.Else1) → let a = c.before.before.before.before.before.before.args in Asked (stands_for a.s.now).setup a.o ≡ true
-passed c = sym (tested c.before) ∙ not-false _ c.if1.false
+passed c = sym (tested c.before) ∙ not-false _ c.if-not-read-formed.false
 
 pub read_fits_spec : {M : Type 1} → statement M
 unfolding readable_words
@@ -50,7 +50,7 @@ read_fits_spec =
     (λ c κs. tt)
     (λ c.
     let a = c.before.before.before.before.before.before.args in
-    unasked (stands_for a.s.now).setup a.o _ (sym (tested c.before) ∙ not-true _ c.if1.true))
+    unasked (stands_for a.s.now).setup a.o _ (sym (tested c.before) ∙ not-true _ c.if-not-read-formed.true))
     (λ c κs.
     let o = c.before.before.before.before.before.before.args.o in
     let r = eqb-true o.kind 0 (and_left (is_read o) _ (passed c)) in

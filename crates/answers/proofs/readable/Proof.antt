@@ -14,7 +14,7 @@ readable_spec =
     tie.close (tie.spec
     (λ c κs. tt)
     (λ c κs.
-    let d : is_denied_read c.before.before.args.o (number_of c.before.before.args.answer) ≡ true = sym c.before.is_denied_read.ensures ∙ c.if1.true in
+    let d : is_denied_read c.before.before.args.o (number_of c.before.before.args.answer) ≡ true = sym c.before.is_denied_read.ensures ∙ c.if-is_denied_read.true in
     omega (arith, denied_read_span _ _ c.before.before.requires d))
-    (λ c. rw (sym c.before.before.is_denied_read.ensures ∙ c.before.if1.true) c.allowed_words.ensures)
-    (λ c. rw (sym c.before.is_denied_read.ensures ∙ c.if1.false)))
+    (λ c. rw (sym c.before.before.is_denied_read.ensures ∙ c.before.if-is_denied_read.true) c.allowed_words.ensures)
+    (λ c. rw (sym c.before.is_denied_read.ensures ∙ c.if-is_denied_read.false)))

@@ -8,4 +8,4 @@ recorded_spec =
     (λ c κs. c.requires)
     (λ c κs. tt)
     (λ c κs. tt)
-    (λ c. rw (c.recorded.ensures, c.before.errors.ensures, c.before.before.error_address.ensures)))
+    (λ c. rw (c.recorded.ensures, c.before.errors.ensures, c.before.before.error_address-address.ensures)))

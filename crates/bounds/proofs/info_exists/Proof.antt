@@ -6,4 +6,4 @@ pub info_exists_spec : {M : Type 1} → statement M
 info_exists_spec =
     tie.close (tie.spec
     (λ c κs. tt)
-    (λ c. rw c.info_count.ensures.0))
+    (λ c. rw c.info_count-count.ensures.0))

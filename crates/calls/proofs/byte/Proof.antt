@@ -8,5 +8,5 @@ pub byte_spec : {M : Type 1} → statement M
 byte_spec =
     tie.close (tie.spec
     (λ c. search rules)
-    (λ c. rw (le-leb _ _ c.if1.true))
-    (λ c. rw (lt-leb _ _ c.if1.false)))
+    (λ c. rw (le-leb _ _ c.if-x-le255.true))
+    (λ c. rw (lt-leb _ _ c.if-x-le255.false)))

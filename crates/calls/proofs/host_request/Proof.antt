@@ -7,5 +7,5 @@ pub host_request_spec : {M : Type 1} → statement M
 host_request_spec =
     tie.close (tie.spec
     (λ c κs. tt)
-    (λ c. rw (sym c.before.flag.ensures ∙ c.if1.true))
-    (λ c. rw (sym c.before.flag.ensures ∙ c.if1.false)))
+    (λ c. rw (sym c.before.flag.ensures ∙ c.if-flag.true))
+    (λ c. rw (sym c.before.flag.ensures ∙ c.if-flag.false)))

@@ -7,4 +7,4 @@ inputs_spec =
     tie.close (tie.spec
     (λ c κs. tt)
     (λ c κs. tt)
-    (λ c. rw (c.flag2.ensures, c.before.flag.ensures)))
+    (λ c. rw (c.flag-2.ensures, c.before.flag.ensures)))

@@ -8,4 +8,4 @@ operation_spec =
     (λ c κs. tt)
     (λ c κs. tt)
     (λ c κs. tt)
-    (λ c. rw (c.byte3.ensures, c.before.byte2.ensures, c.before.before.byte.ensures)))
+    (λ c. rw (c.byte-3.ensures, c.before.byte-2.ensures, c.before.before.byte.ensures)))

@@ -10,4 +10,4 @@ lurgabel_layout4_round_spec =
     (λ c κs. tt)
     (λ c κs. tt)
     (λ c. search rules)
-    (λ c. rw (c.before.before.before.flag.ensures, c.before.before.before.before.before.before.host_request.ensures) at c.before.before.round.ensures))
+    (λ c. rw (c.before.before.before.flag.ensures, c.before.before.before.before.before.before.host_request-asked.ensures) at c.before.before.round.ensures))

@@ -20,7 +20,7 @@ crosses_window_spec =
     (λ c.
     let t = c.before.before.before in
     let s = t.before.before in
-    let one : s.args.o.kind ≡ 1 = eqb-true _ _ (sym t.before.is_program.ensures ∙ t.if1.true) in
+    let one : s.args.o.kind ≡ 1 = eqb-true _ _ (sym t.before.is_program.ensures ∙ t.if-is_program.true) in
     omega (arith, count_bound s.args.o s.requires (omega arith)))
-    (λ c. simp (sym c.before.before.before.before.is_program.ensures ∙ c.before.before.before.if1.true))
-    (λ c. simp (sym c.before.is_program.ensures ∙ c.if1.false)))
+    (λ c. simp (sym c.before.before.before.before.is_program.ensures ∙ c.before.before.before.if-is_program.true))
+    (λ c. simp (sym c.before.is_program.ensures ∙ c.if-is_program.false)))

@@ -13,9 +13,9 @@ out_of_range_spec =
     (λ c κs. tt)
     (λ c κs. tt)
     (λ c. simp (
-      c.span_address.ensures.0,
+      c.span_address-end.ensures.0,
       c.before.span_words.ensures,
-      c.before.before.span_limit.ensures,
-      c.before.before.before.is_bank_erase.ensures,
-      c.before.before.before.before.past_data.ensures,
+      c.before.before.span_limit-limit.ensures,
+      c.before.before.before.is_bank_erase-bank_erase.ensures,
+      c.before.before.before.before.past_data-past.ensures,
     )))

@@ -15,56 +15,56 @@ use Rattle.driving.proofs.Driving.{drive_refused, drive_short, drive_stops, driv
 use Rattle.driving.proofs.drive.Statement.{statement}
 use Rattle.driving.proofs.drive.Tie as tie
 
-returns : tie.Need-returns
+returns : tie.Need-returns-then-not-accepts
 returns c =
     let t = c.before in
     let a = t.before.before.before.before.before.before.before.args in
     rw c.unmoved.ensures
-    (drive_refused a.steps a.s.now (flash a.image.now) a.o a.buffer.now _ t.before.before.whole_answer.ensures
-    (sym t.before.accepts.ensures ∙ not-true _ t.if1.true))
+    (drive_refused a.steps a.s.now (flash a.image-1.now) a.o a.buffer-1.now _ t.before.before.whole_answer-first.ensures
+    (sym t.before.accepts.ensures ∙ not-true _ t.if-not-accepts.true))
 
 -- Past the first test, checks 1 to 4 passed;
-free : (e : tie.Else1) → let a = e.before.before.before.before.before.before.before.args in accepts (whole_answer (decode a.s.now) (flash a.image.now)) ≡ true
-free e = rw e.before.before.whole_answer.ensures at (sym e.before.accepts.ensures ∙ not-false _ e.if1.false)
+free : (e : tie.Else1) → let a = e.before.before.before.before.before.before.before.args in accepts (whole_answer (decode a.s.now) (flash a.image-1.now)) ≡ true
+free e = rw e.before.before.whole_answer-first.ensures at (sym e.before.accepts.ensures ∙ not-false _ e.if-not-accepts.false)
 
-returns_2 : tie.Need-returns-2
+returns_2 : tie.Need-returns-then-short_buffer
 returns_2 c =
     let t = c.before in
     let e = t.before.before.before in
     let a = e.before.before.before.before.before.before.before.args in
-    rw c.unmoved2.ensures
-    (drive_short a.steps a.s.now (flash a.image.now) a.o a.buffer.now (free e) (sym t.before.short_buffer.ensures ∙ t.if2.true))
+    rw c.unmoved-then-short_buffer.ensures
+    (drive_short a.steps a.s.now (flash a.image-1.now) a.o a.buffer-1.now (free e) (sym t.before.short_buffer.ensures ∙ t.if-short_buffer.true))
 
 -- past the second, 6.
-room : (u : tie.Else2) → let a = u.before.before.before.before.before.before.before.before.before.before.args in short_buffer a.o a.buffer.now ≡ false
-room u = sym u.before.short_buffer.ensures ∙ u.if2.false
+room : (u : tie.Else2) → let a = u.before.before.before.before.before.before.before.before.before.before.args in short_buffer a.o a.buffer-1.now ≡ false
+room u = sym u.before.short_buffer.ensures ∙ u.if-short_buffer.false
 
-returns_3 : tie.Need-returns-3
+returns_3 : tie.Need-returns-then-not-starts
 returns_3 c =
     let u = c.before.before.before.before.before.before in
     let e = u.before.before.before in
     let a = e.before.before.before.before.before.before.before.args in
-    drive_stops a.steps a.s.now (flash a.image.now) a.o a.buffer.now (free e) (room u) _ c.before.before.start.ensures
-    (sym c.before.starts.ensures ∙ not-true _ c.if3.true)
+    drive_stops a.steps a.s.now (flash a.image-1.now) a.o a.buffer-1.now (free e) (room u) _ c.before.before.start-told.ensures
+    (sym c.before.starts.ensures ∙ not-true _ c.if-not-starts.true)
 
 -- Past the third, it has started.
-go : (x : tie.Else3) → starts_by x.before.before.before.before.before.before.before.before.before.before.before.before.before.before.before.before.args.o x.before.before.start.result.answer ≡ true
-go x = sym x.before.starts.ensures ∙ not-false _ x.if3.false
+go : (x : tie.Else3) → starts_by x.before.before.before.before.before.before.before.before.before.before.before.before.before.before.before.before.args.o x.before.before.start-told.result.answer ≡ true
+go x = sym x.before.starts.ensures ∙ not-false _ x.if-not-starts.false
 
 all : (t : tie.After-total-words)
     → let a = t.before.before.before.before.before.before.before.before.before.before.before.before.before.before.before.before.before.args in
-    t.total_words.result ≡ total_words (setup_of a.s.now).pages a.o
-all t = rw t.before.before.before.before.before.pages.ensures at t.total_words.ensures
+    t.total_words-total.result ≡ total_words (setup_of a.s.now).pages-d a.o
+all t = rw t.before.before.before.before.before.pages-d.ensures at t.total_words-total.ensures
 
-few : (t : tie.After-total-words) → t.total_words.result ≤ 131072
+few : (t : tie.After-total-words) → t.total_words-total.result ≤ 131072
 few t =
     let x = t.before in
     let u = x.before.before.before.before.before.before in
     let e = u.before.before.before in
     let a = e.before.before.before.before.before.before.before.args in
-    few_total a.steps a.s.now (flash a.image.now) a.o a.buffer.now (free e) (room u) _ x.before.before.start.ensures (go x) _ (all t)
+    few_total a.steps a.s.now (flash a.image-1.now) a.o a.buffer-1.now (free e) (room u) _ x.before.before.start-told.ensures (go x) _ (all t)
 
-turns_requires : tie.Need-turns-requires
+turns_requires : tie.Need-turns-bits-requires
 turns_requires c κs =
     let n = c.before.before.before in
     let t = n.before in
@@ -72,9 +72,9 @@ turns_requires c κs =
     let u = x.before.before.before.before.before.before in
     let e = u.before.before.before in
     let a = e.before.before.before.before.before.before.before.args in
-    (has_room a.steps a.s.now (flash a.image.now) a.o a.buffer.now (free e) (room u) _ x.before.before.start.ensures (go x) _ (all t) _ (omega (arith, n.fewer.ensures)), omega (arith, n.fewer.ensures, few t))
+    (has_room a.steps a.s.now (flash a.image-1.now) a.o a.buffer-1.now (free e) (room u) _ x.before.before.start-told.ensures (go x) _ (all t) _ (omega (arith, n.fewer-n.ensures)), omega (arith, n.fewer-n.ensures, few t))
 
-returns_4 : tie.Need-returns-4
+returns_4 : tie.Need-returns
 returns_4 c =
     let r = c.before.before.before.before.before in
     let n = r.before.before.before.before in
@@ -84,8 +84,8 @@ returns_4 c =
     let e = u.before.before.before in
     let a = e.before.before.before.before.before.before.before.args in
     rw c.flag_of.ensures.0
-    (drive_goes a.steps a.s.now (flash a.image.now) a.o a.buffer.now (free e) (room u) _ x.before.before.start.ensures (go x) _ (all t) _ n.fewer.ensures
-    (record { registers = r.turns.new.0; flash = flash r.turns.new.1.0; buffer = r.turns.new.1.1.1.0; bits = r.turns.result }) r.turns.ensures)
+    (drive_goes a.steps a.s.now (flash a.image-1.now) a.o a.buffer-1.now (free e) (room u) _ x.before.before.start-told.ensures (go x) _ (all t) _ n.fewer-n.ensures
+    (record { registers = r.turns-bits.new.0; flash = flash r.turns-bits.new.1.0; buffer = r.turns-bits.new.1.1.1.0; bits = r.turns-bits.result }) r.turns-bits.ensures)
 
 pub drive_spec : {M : Type 1} → statement M
 drive_spec =
@@ -111,7 +111,7 @@ drive_spec =
     (λ c. omega (arith, few c))
     (λ c κs. tt)
     turns_requires
-    (λ c. let n = c.before.before.before.before.before.before.before.before in omega (arith, n.fewer.ensures))
+    (λ c. let n = c.before.before.before.before.before.before.before.before in omega (arith, n.fewer-n.ensures))
     (λ c κs. tt)
     (λ c. search rules)
     (λ c. search rules)

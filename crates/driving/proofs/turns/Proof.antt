@@ -10,40 +10,40 @@ use Rattle.driving.proofs.Turning.{turns_none, turns_more, turns_end, next_room}
 use Rattle.driving.proofs.turns.Statement.{statement}
 use Rattle.driving.proofs.turns.Tie as tie
 
-abbrev invariant_loop : tie.invariant_loop
+abbrev invariant_loop : tie.invariant-loop-k
 invariant_loop s₀ image₀ o buffer₀ n bits₀ k₀ s image buffer bits k =
     (k ≤ n) × (bits ≤ 32 * k) × (length image ≡ length image₀) × (length buffer ≡ length buffer₀)
     × (record { registers = s; flash = flash image; buffer = buffer; bits = bits }
     ≡ turns_in o k (record { registers = s₀; flash = flash image₀; buffer = buffer₀; bits = 0 }))
 
-abbrev decreases_loop : tie.decreases_loop
+abbrev decreases_loop : tie.decreases-loop-k
 decreases_loop s₀ image₀ o buffer₀ n bits₀ k₀ s image buffer bits k = n - k
 
-turn_requires : tie.Need-turn-requires invariant_loop decreases_loop
+turn_requires : tie.Need-turn-bits-requires invariant_loop decreases_loop
 turn_requires c κs =
     let l = c.before.before.before.before in
     let s = l.before.before.before in
-    (next_room l.loop.k _ s.requires.0 l.loop.invariant.3 (omega arith), omega (arith, s.requires.1, l.loop.invariant.1))
+    (next_room l.loop-k.k _ s.requires.0 l.loop-k.invariant.3 (omega arith), omega (arith, s.requires.1, l.loop-k.invariant.1))
 
-loop_again : tie.Need-loop-preserved invariant_loop decreases_loop
+loop_again : tie.Need-loop-k-preserved invariant_loop decreases_loop
 loop_again c =
     let t = c.before.before.before.before in
     let l = t.before.before.before.before.before in (
       omega arith,
-      omega (arith, t.turn.ensures.1, l.loop.invariant.1),
-      c.before.before.before.image.given ∙ l.loop.invariant.2,
-      c.before.buffer.given ∙ l.loop.invariant.3,
-      turns_more _ _ _ _ _ l.loop.invariant.4 t.turn.ensures.0,
+      omega (arith, t.turn-bits.ensures.1, l.loop-k.invariant.1),
+      c.before.before.before.image-1.given ∙ l.loop-k.invariant.2,
+      c.before.buffer-1.given ∙ l.loop-k.invariant.3,
+      turns_more _ _ _ _ _ l.loop-k.invariant.4 t.turn-bits.ensures.0,
     )
 
-same_length : tie.Need-same-length invariant_loop decreases_loop
-same_length c = c.before.loop.invariant.2
+same_length : tie.Need-shape_of-image invariant_loop decreases_loop
+same_length c = c.before.loop-k.invariant.2
 
-same_length_2 : tie.Need-same-length-2 invariant_loop decreases_loop
-same_length_2 c = c.before.loop.invariant.3
+same_length_2 : tie.Need-shape_of-buffer invariant_loop decreases_loop
+same_length_2 c = c.before.loop-k.invariant.3
 
 returns : tie.Need-returns invariant_loop decreases_loop
-returns c = turns_end _ _ _ _ _ c.before.loop.invariant.4 (omega arith)
+returns c = turns_end _ _ _ _ _ c.before.loop-k.invariant.4 (omega arith)
 
 pub turns_spec : {M : Type 1} → statement M
 turns_spec =

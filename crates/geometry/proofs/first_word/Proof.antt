@@ -3,7 +3,7 @@ use borrow.Author.Rules.{rules}
 use Rattle.geometry.proofs.first_word.Statement.{statement}
 use Rattle.geometry.proofs.first_word.Tie as tie
 
-mul_t2 : tie.Need-overflow-mul-t2
+mul_t2 : tie.Need-overflow_mul-result
 mul_t2 c = search rules
 
 returns : tie.Need-returns

@@ -15,7 +15,7 @@ image_page_spec =
     (λ c κs. search rules)
     (λ c.
     let p = c.before.before in
-    (simp (c.info_image_page.ensures.0, p.page_in_bank.ensures.0, p.before.bank_of.ensures.0, c.before.if1.true), search rules))
+    (simp (c.info_image_page.ensures.0, p.page_in_bank-page.ensures.0, p.before.bank_of-bank.ensures.0, c.before.if-information.true), search rules))
     (λ c.
     let p = c.before.before in
-    (simp (c.data_image_page.ensures.0, p.page_in_bank.ensures.0, p.before.bank_of.ensures.0, c.before.if1.false), search rules)))
+    (simp (c.data_image_page.ensures.0, p.page_in_bank-page.ensures.0, p.before.bank_of-bank.ensures.0, c.before.if-information.false), search rules)))

@@ -7,7 +7,7 @@ use Rattle.model.specs.Geometry.{info_count}
 use Rattle.geometry.proofs.info_count.Statement.{statement}
 use Rattle.geometry.proofs.info_count.Tie as tie
 
-returns_4 : tie.Need-returns-4
+returns_4 : tie.Need-returns-in-3-to-255
 returns_4 c =
     let k = c.before.args.t in
     let e : k ≡ suc (suc (suc (k - 3))) = omega arith in

@@ -11,4 +11,4 @@ info_image_page_spec =
     (λ c κs. tt)
     (λ c. search rules)
     (λ c. search rules)
-    (λ c. (rw (c.before.before.data_image_page.ensures.0, c.before.info_first.ensures.0) (search rules), search rules)))
+    (λ c. (rw (c.before.before.data_image_page-after.ensures.0, c.before.info_first.ensures.0) (search rules), search rules)))

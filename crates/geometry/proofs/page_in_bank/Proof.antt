@@ -8,5 +8,5 @@ pub page_in_bank_spec : {M : Type 1} → statement M
 page_in_bank_spec =
     tie.close
     (tie.spec
-    (λ c. (simp (lt-ltb _ _ c.if1.true) (search rules), search rules))
-    (λ c. (simp (le-ltb _ _ c.if1.false) (search rules), search rules)))
+    (λ c. (simp (lt-ltb _ _ c.if-page-d.true) (search rules), search rules))
+    (λ c. (simp (le-ltb _ _ c.if-page-d.false) (search rules), search rules)))

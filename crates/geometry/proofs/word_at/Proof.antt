@@ -15,7 +15,7 @@ word_at_spec =
     (λ c κs. search rules)
     (λ c κs. search rules)
     (λ c κs. tt)
-    (λ c. omega (arith, ap (λ w. w.0) c.before.before.first_word.ensures))
+    (λ c. omega (arith, ap (λ w. w.0) c.before.before.first_word-first.ensures))
     (λ c.
     let q = c.before.before.before in
-    rw (c.before.before.first_word.ensures, q.image_page.ensures.0, q.before.page_of.ensures.0, c.before.word_in_page.ensures.0)))
+    rw (c.before.before.first_word-first.ensures, q.image_page-q.ensures.0, q.before.page_of-p.ensures.0, c.before.word_in_page-word.ensures.0)))

@@ -12,6 +12,6 @@ host_read_spec =
     (λ c κs. tt)
     (λ c κs. tt)
     (λ c κs. tt)
-    (λ c. let r = c.before.before.before.ready_with.ensures in rw (c.told_word.ensures, r) (read_early _ _ _ (rw r at (sym c.before.before.accepts.ensures ∙ not-true _ c.before.if1.true))))
-    (λ c κs. rw c.before.before.ready_with.ensures at (sym c.before.accepts.ensures ∙ not-false _ c.if1.false))
+    (λ c. let r = c.before.before.before.ready_with-ready.ensures in rw (c.told_word.ensures, r) (read_early _ _ _ (rw r at (sym c.before.before.accepts.ensures ∙ not-true _ c.before.if-not-accepts.true))))
+    (λ c κs. rw c.before.before.ready_with-ready.ensures at (sym c.before.accepts.ensures ∙ not-false _ c.if-not-accepts.false))
     (λ c. c.Ready-read.ensures))

@@ -12,8 +12,8 @@ use Rattle.host.proofs.ready_read.Tie as tie
 -- What the checks answered,
 answered : (d : tie.After-accepts) →
     let v = d.before.before.before.args in
-    d.before.late_answer.result ≡ host_answer (decode v.s.now) (flash v.image.now) v.at
-answered d = d.before.late_answer.ensures ∙ late_same _ _ _ d.before.before.before.requires
+    d.before.late_answer-answer.result ≡ host_answer (decode v.s.now) (flash v.image.now) v.at
+answered d = d.before.late_answer-answer.ensures ∙ late_same _ _ _ d.before.before.before.requires
 
 -- and whether they accepted.
 asked : (d : tie.After-accepts) →
@@ -27,18 +27,18 @@ ready_read_spec =
     (λ c κs. tt)
     (λ c κs. tt)
     (λ c κs. tt)
-    (λ c. let t = c.before in rw (c.told_word.ensures, answered t.before) (read_refused _ _ _ (sym (asked t.before) ∙ not-true _ t.if1.true)))
+    (λ c. let t = c.before in rw (c.told_word.ensures, answered t.before) (read_refused _ _ _ (sym (asked t.before) ∙ not-true _ t.if-not-accepts.true)))
     (λ c κs. tt)
-    (λ c κs. rw c.pages.ensures (read_inside _ _ _ (sym (asked c.before.before) ∙ not-false _ c.before.if1.false)).0)
-    (λ c κs. rw (c.word_at.ensures, c.before.pages.ensures) (read_inside _ _ _ (sym (asked c.before.before.before) ∙ not-false _ c.before.before.if1.false)).1)
+    (λ c κs. rw c.pages.ensures (read_inside _ _ _ (sym (asked c.before.before) ∙ not-false _ c.before.if-not-accepts.false)).0)
+    (λ c κs. rw (c.word_at-place.ensures, c.before.pages.ensures) (read_inside _ _ _ (sym (asked c.before.before.before) ∙ not-false _ c.before.before.if-not-accepts.false)).1)
     (λ c κs. tt)
     (λ c.
     let w = c.before.before in
     let t = w.before.before in
     rw (
-      c.told-word2.ensures,
+      c.told_word-2.ensures,
       c.before.delivered.ensures,
-      w.word_at.ensures,
+      w.word_at-place.ensures,
       w.before.pages.ensures,
       answered t.before,
-    ) (read_accepted _ _ _ (sym (asked t.before) ∙ not-false _ t.if1.false))))
+    ) (read_accepted _ _ _ (sym (asked t.before) ∙ not-false _ t.if-not-accepts.false))))

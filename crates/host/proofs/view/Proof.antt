@@ -16,34 +16,34 @@ use Rattle.host.proofs.view.Tie as tie
 -- Whether the checks accepted.
 asked : (d : tie.After-accepts) →
     let v = d.before.before.before.args in
-    d.accepts.result ≡ accepts (view_answer (decode v.s.now) (flash v.image.now) v.p)
-asked d = rw d.before.view_answer.ensures at d.accepts.ensures
+    d.accepts-accepted.result-1 ≡ accepts (view_answer (decode v.s.now) (flash v.image.now) v.p)
+asked d = rw d.before.view_answer-answer.ensures at d.accepts-accepted.ensures
 
 -- In the branch that shows the page, they did,
 granted : (d : tie.Then1) →
     let v = d.before.before.before.before.before.before.args in
     accepts (view_answer (decode v.s.now) (flash v.image.now) v.p) ≡ true
-granted d = sym (asked d.before.before.before) ∙ d.if1.true
+granted d = sym (asked d.before.before.before) ∙ d.if-accepted.true
 
 -- and it starts where the controller's D puts it.
 found : (d : tie.After-page-start) →
     let v = d.before.before.before.before.before.before.before.args in
-    d.page_start.result ≡ (first_word (image_page (decode v.s.now).setup.pages false 0 v.p)).0
+    d.page_start-start.result-1 ≡ (first_word (image_page (decode v.s.now).setup.pages false 0 v.p)).0
 found d =
     let v = d.before.before.before.before.before.before.before.args in
-    d.page_start.ensures ∙ ap (λ (n : ℕ). (first_word (image_page n false 0 v.p)).0) (view_pages _ _ _ (granted d.before))
+    d.page_start-start.ensures ∙ ap (λ (n : ℕ). (first_word (image_page n false 0 v.p)).0) (view_pages _ _ _ (granted d.before))
 
 -- The number that is written is the answer's.
 told : (d : tie.After-number-of) →
     let v = d.before.before.before.before.args in
-    d.number_of_lem.result ≡ number_of (view_answer (decode v.s.now) (flash v.image.now) v.p)
-told d = rw d.before.before.view_answer.ensures at d.number_of_lem.ensures
+    d.number_of_lem.result-1 ≡ number_of (view_answer (decode v.s.now) (flash v.image.now) v.p)
+told d = rw d.before.before.view_answer-answer.ensures at d.number_of_lem.ensures
 
 -- and so is what it reports.
 named : (d : tie.After-reported) →
     let v = d.before.before.before.before.before.args in
-    d.reported.result ≡ reported (view_answer (decode v.s.now) (flash v.image.now) v.p)
-named d = rw d.before.before.before.view_answer.ensures at d.reported.ensures
+    d.reported-by.result-1 ≡ reported (view_answer (decode v.s.now) (flash v.image.now) v.p)
+named d = rw d.before.before.before.view_answer-answer.ensures at d.reported-by.ensures
 
 pub view_spec : {M : Type 1} → statement M
 unfolding view
@@ -59,9 +59,9 @@ view_spec =
     (λ c. search rules)
     (λ c. search rules)
     (λ c. search rules)
-    (λ c. rw c.page_start.ensures (view_inside _ _ _ (granted c.before)).2)
+    (λ c. rw c.page_start-start.ensures (view_inside _ _ _ (granted c.before)).2)
     (λ c. let h = granted c.before.before in let e = found c.before in (simp (h, e, add-sub_cancel_left), (simp (h, e), (told c.before.before.before.before, named c.before.before.before))))
     (λ c. search rules)
     (λ c. search rules)
     (λ c. search rules)
-    (λ c. let h = sym (asked c.before.before.before.before) ∙ c.before.if1.false in (simp h, (simp h, (told c.before.before.before, named c.before.before)))))
+    (λ c. let h = sym (asked c.before.before.before.before) ∙ c.before.if-accepted.false in (simp h, (simp h, (told c.before.before.before, named c.before.before)))))

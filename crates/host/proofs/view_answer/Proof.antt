@@ -20,6 +20,6 @@ view_answer_spec =
     let u = c.before.before in
     let k = u.before.before.before in
     let r = k.before in
-    rw (c.or-else2.ensures, c.before.or_else.ensures, u.read_answer.ensures)
-    (rw (u.before.check.ensures, k.pages.ensures, r.ready_with.ensures)
+    rw (c.or_else-2.ensures, c.before.or_else.ensures, u.read_answer-right.ensures)
+    (rw (u.before.check-range.ensures, k.pages.ensures, r.ready_with-ready.ensures)
     (view_answer_same _ _ _))))

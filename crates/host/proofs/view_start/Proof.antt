@@ -13,7 +13,7 @@ use Rattle.host.proofs.view_start.Tie as tie
 asked : (d : tie.After-accepts) →
     let v = d.before.before.before.args in
     d.accepts.result ≡ accepts (view_answer (decode v.s.now) (flash v.image.now) v.p)
-asked d = rw d.before.view_answer.ensures at d.accepts.ensures
+asked d = rw d.before.view_answer-answer.ensures at d.accepts.ensures
 
 pub view_start_spec : {M : Type 1} → statement M
 view_start_spec =
@@ -21,8 +21,8 @@ view_start_spec =
     (λ c κs. tt)
     (λ c κs. tt)
     (λ c κs. tt)
-    (λ c. let t = c.before in rw (c.told_start.ensures, t.before.before.view_answer.ensures) (view_refused _ _ _ (sym (asked t.before) ∙ not-true _ t.if1.true)))
-    (λ c κs. let h = view_inside _ _ _ (sym (asked c.before) ∙ not-false _ c.if1.false) in (h.0, h.1))
+    (λ c. let t = c.before in rw (c.told_start.ensures, t.before.before.view_answer-answer.ensures) (view_refused _ _ _ (sym (asked t.before) ∙ not-true _ t.if-not-accepts.true)))
+    (λ c κs. let h = view_inside _ _ _ (sym (asked c.before) ∙ not-false _ c.if-not-accepts.false) in (h.0, h.1))
     (λ c κs. tt)
-    (λ c. let t = c.before.before in rw (c.told-start2.ensures, c.before.page_start.ensures, t.before.before.view_answer.ensures)
-    (view_accepted _ _ _ (sym (asked t.before) ∙ not-false _ t.if1.false))))
+    (λ c. let t = c.before.before in rw (c.told_start-2.ensures, c.before.page_start.ensures, t.before.before.view_answer-answer.ensures)
+    (view_accepted _ _ _ (sym (asked t.before) ∙ not-false _ t.if-not-accepts.false))))

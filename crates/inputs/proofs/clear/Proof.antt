@@ -10,7 +10,7 @@ clear_spec =
     tie.close (tie.spec
     (λ c κs. tt)
     (λ c κs. tt)
-    (λ c. rw c.number.ensures (clear_refused _ (sym c.before.before.valid.ensures ∙ not-true _ c.before.if1.true)))
+    (λ c. rw c.number.ensures (clear_refused _ (sym c.before.before.valid.ensures ∙ not-true _ c.before.if-not-valid.true)))
     (λ c κs. tt)
     (λ c κs. tt)
-    (λ c. rw (c.put_errors.ensures, c.before.no_errors.ensures) (clear_accepted _ (sym c.before.before.before.before.valid.ensures ∙ not-false _ c.before.before.before.if1.false))))
+    (λ c. rw (c.put_errors.ensures, c.before.no_errors.ensures) (clear_accepted _ (sym c.before.before.before.before.valid.ensures ∙ not-false _ c.before.before.before.if-not-valid.false))))

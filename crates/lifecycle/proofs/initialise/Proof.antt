@@ -14,13 +14,13 @@ use Rattle.lifecycle.proofs.initialise.Tie as tie
 asked : (d : tie.After-accepts) →
     let v = d.before.before.before.before.args in
     d.accepts.result ≡ accepts (initialise_answer (decode v.s.now) (flash v.image.now))
-asked d = rw d.before.initialise_answer.ensures at d.accepts.ensures
+asked d = rw d.before.initialise_answer-answer.ensures at d.accepts.ensures
 
 -- In the branch that writes the phase, they did.
 granted : (d : tie.After-put-phase) →
     let v = d.before.before.before.before.before.before.before.before.before.before.before.args in
     accepts (initialise_answer (decode v.s.now) (flash v.image.now)) ≡ true
-granted d = let t = d.before.before.before.before.before.before in sym (asked t.before) ∙ not-false _ t.if1.false
+granted d = let t = d.before.before.before.before.before.before in sym (asked t.before) ∙ not-false _ t.if-not-accepts.false
 
 pub initialise_spec : {M : Type 1} → statement M
 initialise_spec =
@@ -32,13 +32,13 @@ initialise_spec =
     (λ c. let d = c.before.before.before in rw (
       c.no_seeds.ensures,
       c.before.number.ensures,
-      d.before.initialise_answer.ensures,
-    ) (initialise_refused _ _ (sym (asked d) ∙ not-true _ c.before.before.if1.true)))
+      d.before.initialise_answer-answer.ensures,
+    ) (initialise_refused _ _ (sym (asked d) ∙ not-true _ c.before.before.if-not-accepts.true)))
     (λ c κs. tt)
     (λ c κs. tt)
     (λ c κs. tt)
-    (λ c κs. rw c.before.before.before.before.before.pages.ensures (initialise_fits _ _ (granted c.before)))
-    (λ c. let d = c.before.before in let i = d.before.before in rw (c.seeds_of.ensures, i.before.before.pages.ensures, d.put_phase.ensures)
-    (initialise_accepted _ _ (granted d) true (rw i.inputs.ensures at c.before.if2.true)))
+    (λ c κs. rw c.before.before.before.before.before.pages-d.ensures (initialise_fits _ _ (granted c.before)))
+    (λ c. let d = c.before.before in let i = d.before.before in rw (c.seeds_of.ensures, i.before.before.pages-d.ensures, d.put_phase.ensures)
+    (initialise_accepted _ _ (granted d) true (rw i.inputs-inputs.ensures at c.before.if-inputs.true)))
     (λ c κs. tt)
-    (λ c. let d = c.before.before in rw (c.no-seeds2.ensures, d.put_phase.ensures) (initialise_accepted _ _ (granted d) false (rw d.before.before.inputs.ensures at c.before.if2.false))))
+    (λ c. let d = c.before.before in rw (c.no_seeds-2.ensures, d.put_phase.ensures) (initialise_accepted _ _ (granted d) false (rw d.before.before.inputs-inputs.ensures at c.before.if-inputs.false))))

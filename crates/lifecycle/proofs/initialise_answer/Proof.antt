@@ -18,6 +18,6 @@ initialise_answer_spec =
     (λ c.
     let k = c.before.before.before in
     let v = k.before.before.before.before in
-    rw (c.or-else2.ensures, c.before.or_else.ensures, c.before.before.check3.ensures)
-    (rw (k.is_ready.ensures, k.before.check2.ensures, k.before.before.is_disabled.ensures, k.before.before.before.check.ensures, v.valid_with.ensures, v.before.phase.ensures)
+    rw (c.or_else-2.ensures, c.before.or_else.ensures, c.before.before.check-ready.ensures)
+    (rw (k.is_ready.ensures, k.before.check-disabled.ensures, k.before.before.is_disabled.ensures, k.before.before.before.check-invalid.ensures, v.valid_with.ensures, v.before.phase-phase.ensures)
     (initialise_answer_same _ _))))

@@ -14,14 +14,14 @@ use Rattle.lifecycle.proofs.rma.Tie as tie
 -- Whether the checks accepted.
 asked : (d : tie.After-accepts) →
     let v = d.before.before.before.before.before.args in
-    d.accepts.result ≡ accepts (rma_answer (decode v.s.now) (flash v.image.now))
-asked d = rw d.before.rma_answer.ensures at d.accepts.ensures
+    d.accepts.result ≡ accepts (rma_answer (decode v.s.now) (flash v.image-1.now))
+asked d = rw d.before.rma_answer-answer.ensures at d.accepts.ensures
 
 -- In the branch that wipes, they did.
 granted : (d : tie.After-pages) →
     let v = d.before.before.before.before.before.before.before.before.before.args in
-    accepts (rma_answer (decode v.s.now) (flash v.image.now)) ≡ true
-granted d = let t = d.before.before.before in sym (asked t.before) ∙ not-false _ t.if1.false
+    accepts (rma_answer (decode v.s.now) (flash v.image-1.now)) ≡ true
+granted d = let t = d.before.before.before in sym (asked t.before) ∙ not-false _ t.if-not-accepts.false
 
 pub rma_spec : {M : Type 1} → statement M
 rma_spec =
@@ -30,7 +30,7 @@ rma_spec =
     (λ c κs. tt)
     (λ c κs. tt)
     (λ c. search rules)
-    (λ c. let d = c.before.before in rw (c.number.ensures, d.before.rma_answer.ensures) (rma_refused _ _ (sym (asked d) ∙ not-true _ c.before.if1.true)))
+    (λ c. let d = c.before.before in rw (c.number.ensures, d.before.rma_answer-answer.ensures) (rma_refused _ _ (sym (asked d) ∙ not-true _ c.before.if-not-accepts.true)))
     (λ c κs. tt)
     (λ c κs. rw c.pages.ensures (rma_fits _ _ (granted c)))
     (λ c κs. tt)
@@ -45,7 +45,7 @@ rma_spec =
       c.put_programs.ensures,
       c.before.before.put_reads.ensures,
       c.before.before.before.before.put_phase.ensures,
-      e.empty.ensures,
+      e.empty-none.ensures,
       e.before.before.before.wipe.ensures,
       p.pages.ensures,
     ) (rma_accepted _ _ (granted p))))

@@ -19,14 +19,14 @@ rma_answer_spec =
     (λ c.
     let k = c.before.before.before in
     let v = k.before.before.before.before in
-    rw (c.or-else2.ensures, c.before.or_else.ensures, c.before.before.check3.ensures)
+    rw (c.or_else-2.ensures, c.before.or_else.ensures, c.before.before.check-busy.ensures)
     (rw (
       k.is_busy.ensures,
-      k.before.check2.ensures,
+      k.before.check-disabled.ensures,
       k.before.before.is_disabled.ensures,
-      k.before.before.before.check.ensures,
+      k.before.before.before.check-invalid.ensures,
       v.valid_with.ensures,
-      v.before.progress.ensures,
-      v.before.before.phase.ensures,
+      v.before.progress-progress.ensures,
+      v.before.before.phase-phase.ensures,
     )
     (rma_answer_same _ _))))

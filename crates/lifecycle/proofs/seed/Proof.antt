@@ -8,10 +8,10 @@ use Rattle.lifecycle.proofs.Copied.{Copied, copied_none, copied_more, copied_all
 use Rattle.lifecycle.proofs.seed.Statement.{statement}
 use Rattle.lifecycle.proofs.seed.Tie as tie
 
-abbrev invariant_loop : tie.invariant_loop
+abbrev invariant_loop : tie.invariant-loop-i
 invariant_loop image start words₀ i₀ words i = (i ≤ 8) × (length words ≡ 8) × Copied image start words i
 
-abbrev decreases_loop : tie.decreases_loop
+abbrev decreases_loop : tie.decreases-loop-i
 decreases_loop image start words₀ i₀ words i = 8 - i
 
 pub seed_spec : {M : Type 1} → statement M
@@ -28,5 +28,5 @@ seed_spec =
     (λ c. omega arith)
     (λ c. omega arith)
     (λ c. omega arith)
-    (λ c. let l = c.before.before.loop in (omega arith, simp length-set l.invariant.1, copied_more (omega arith) l.invariant.2))
-    (λ c. let l = c.before.loop in let done : l.i ≡ 8 = omega arith in copied_all l.invariant.1 (omega arith) (rw done at l.invariant.2)))
+    (λ c. let l = c.before.before.loop-i in (omega arith, simp length-set l.invariant.1, copied_more (omega arith) l.invariant.2))
+    (λ c. let l = c.before.loop-i in let done : l.i ≡ 8 = omega arith in copied_all l.invariant.1 (omega arith) (rw done at l.invariant.2)))

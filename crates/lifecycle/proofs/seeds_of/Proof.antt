@@ -12,6 +12,6 @@ seeds_of_spec =
     (λ c κs. rw (c.first_word.ensures, c.before.special_page.ensures.0) (omega arith))
     (λ c κs. search rules)
     (λ c κs. search rules)
-    (λ c κs. rw (c.first-word2.ensures, c.before.special-page2.ensures.0) (omega arith))
+    (λ c κs. rw (c.first_word-2.ensures, c.before.special_page-2.ensures.0) (omega arith))
     (λ c. let b = c.before.before in let d = b.before in
-    rw (c.seed2.ensures, c.before.first-word2.ensures, b.special-page2.ensures.0, d.seed.ensures, d.before.first_word.ensures, d.before.before.special_page.ensures.0)))
+    rw (c.seed-owner.ensures, c.before.first_word-2.ensures, b.special_page-2.ensures.0, d.seed-creator.ensures, d.before.first_word.ensures, d.before.before.special_page.ensures.0)))

@@ -15,34 +15,34 @@ use Rattle.registers.proofs.Listed.{region_at_lem, regions_length}
 use Rattle.lookups.proofs.data_ruling.Statement.{statement}
 use Rattle.lookups.proofs.data_ruling.Tie as tie
 
-abbrev invariant_loop : tie.invariant_loop
+abbrev invariant_loop : tie.invariant-loop-i
 invariant_loop s p other i₀ i = (i ≤ 8) × (other ≡ get_or s default_at 0 % 256) × Undecided (regions_of s) (get_or s default_at 0 % 256) p i
 
-abbrev decreases_loop : tie.decreases_loop
+abbrev decreases_loop : tie.decreases-loop-i
 decreases_loop s p other i₀ i = 8 - i
 
-loop_again : tie.Need-loop-preserved invariant_loop decreases_loop
+loop_again : tie.Need-loop-i-preserved invariant_loop decreases_loop
 loop_again c =
-    let l = c.before.before.before.before.loop in
+    let l = c.before.before.before.before.loop-i in
     let a = c.before.before.before.before.before.before.args in
     let long = regions_length a.s.now in
-    let it = region_at_lem a.s.now l.i region_off (omega arith) ∙ sym c.before.before.region.ensures in
-    (omega arith, l.invariant.1, undecided_more region_off (omega arith) l.invariant.2 (ap (decides a.p) it ∙ sym c.before.decides.ensures ∙ c.if2.false))
+    let it = region_at_lem a.s.now l.i region_off (omega arith) ∙ sym c.before.before.region-g.ensures in
+    (omega arith, l.invariant.1, undecided_more region_off (omega arith) l.invariant.2 (ap (decides a.p) it ∙ sym c.before.decides.ensures ∙ c.if-decides.false))
 
-returns : tie.Need-returns invariant_loop decreases_loop
+returns : tie.Need-returns-then-i-eq8 invariant_loop decreases_loop
 returns c =
-    let l = c.before.loop in
+    let l = c.before.loop-i in
     let long = regions_length c.before.before.before.args.s.now in
     ap (λ (n : ℕ). record { rights = n; decider = by.Default }) l.invariant.1 ∙ undecided_all (omega arith) l.invariant.2
 
-returns_2 : tie.Need-returns-2 invariant_loop decreases_loop
+returns_2 : tie.Need-returns-then-decides invariant_loop decreases_loop
 returns_2 c =
-    let l = c.before.before.before.before.loop in
+    let l = c.before.before.before.before.loop-i in
     let a = c.before.before.before.before.before.before.args in
     let long = regions_length a.s.now in
-    let it = region_at_lem a.s.now l.i region_off (omega arith) ∙ sym c.before.before.region.ensures in
+    let it = region_at_lem a.s.now l.i region_off (omega arith) ∙ sym c.before.before.region-g.ensures in
     ap (λ (g : Region). record { rights = g.rights; decider = by.Region l.i }) (sym it)
-    ∙ decided region_off (omega arith) l.invariant.2 (ap (decides a.p) it ∙ sym c.before.decides.ensures ∙ c.if2.true)
+    ∙ decided region_off (omega arith) l.invariant.2 (ap (decides a.p) it ∙ sym c.before.decides.ensures ∙ c.if-decides.true)
 
 pub data_ruling_spec : {M : Type 1} → statement M
 data_ruling_spec =
@@ -50,7 +50,7 @@ data_ruling_spec =
     invariant_loop
     decreases_loop
     (λ c κs. tt)
-    (λ c. (omega arith, c.default_rights.ensures, undecided_none))
+    (λ c. (omega arith, c.default_rights-other.ensures, undecided_none))
     (λ c κs. omega arith)
     (λ c κs. tt)
     (λ c. search rules)

@@ -10,11 +10,11 @@ info_ruling_spec =
     tie.close (tie.spec
     (λ c κs. tt)
     (λ c κs. tt)
-    (λ c. simp (rw c.before.before.inputs.ensures at (sym c.before.seed_closed.ensures ∙ c.if1.true)))
+    (λ c. simp (rw c.before.before.inputs-inputs.ensures at (sym c.before.seed_closed.ensures ∙ c.if-seed_closed.true)))
     (λ c κs. tt)
     (λ c κs. tt)
     (λ c. simp (
-      c.page_rights.ensures,
+      c.page_rights-rights.ensures,
       c.before.page_setting.ensures,
-      rw c.before.before.before.before.inputs.ensures at (sym c.before.before.before.seed_closed.ensures ∙ c.before.before.if1.false),
+      rw c.before.before.before.before.inputs-inputs.ensures at (sym c.before.before.before.seed_closed.ensures ∙ c.before.before.if-seed_closed.false),
     )))

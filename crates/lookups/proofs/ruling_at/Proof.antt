@@ -18,10 +18,10 @@ ruling_at_spec =
     simp (
       c.info_ruling.ensures,
       c.before.info_index.ensures,
-      c.before.before.page_in_bank.ensures.0,
-      at.bank_of.ensures.0,
-      at.before.pages.ensures,
-      at.before.before.if1.true,
+      c.before.before.page_in_bank-page.ensures.0,
+      at.bank_of-bank.ensures.0,
+      at.before.pages-d.ensures,
+      at.before.before.if-information.true,
     ))
     (λ c κs. tt)
-    (λ c. simp (c.data_ruling.ensures, c.before.if1.false)))
+    (λ c. simp (c.data_ruling.ensures, c.before.if-information.false)))

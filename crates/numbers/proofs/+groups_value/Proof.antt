@@ -26,12 +26,12 @@ groups_value_below t = and 1 groups_value_kinds.ps (falls 1 groups_value_kinds.p
 mod_lt·128 : (n : ℕ) → n % 128 < 128
 mod_lt·128 n = mod-lt n (omega arith)
 
-none : (t : ℕ) → groups_value_lts.Need-returns (groups_value_below t, groups_value_lem.Post, wide_reads.Asked, wide_reads.Learnt) (groups_value_at t) groups_value_lem.Post
+none : (t : ℕ) → groups_value_lts.Need-returns-then-k-eq0 (groups_value_below t, groups_value_lem.Post, wide_reads.Asked, wide_reads.Learnt) (groups_value_at t) groups_value_lem.Post
 unfolding groups_value
-none t c = rw c.if1.true (refl, omega arith)
+none t c = rw c.if-k-eq0.true (refl, omega arith)
 
-pub +groups-value-spec : {M : Type 1} → statement M
-+groups-value-spec = close μ-groups-value λ t. groups_value_lts.spec (groups_value_below t, groups_value_lem.Post, wide_reads.Asked, wide_reads.Learnt)
+pub +groups_value_spec : {M : Type 1} → statement M
++groups_value_spec = close μ-groups-value λ t. groups_value_lts.spec (groups_value_below t, groups_value_lem.Post, wide_reads.Asked, wide_reads.Learnt)
     (groups_value_at t)
     groups_value_lem.Post
     (none t)
@@ -43,7 +43,7 @@ pub +groups-value-spec : {M : Type 1} → statement M
     (λ c. omega arith)
     (λ c. let m = mod_lt·128 c.wide.result in omega arith)
     (λ c. let a = c.before.before.before.before.before.args in
-    let g = c.before.before.groups_value.ensures.0 in
+    let g = c.before.before.groups_value-high.ensures.0 in
     let e = value_step a.s.now a.at a.k (omega arith) in
     let r = ap₂ (λ (x y : ℕ). x % 128 + 128 * y) c.wide.ensures g ∙ sym e in
     (r, subst (λ (x : ℕ). x < 34359738368) (sym r) (value_small a.s.now a.at a.k (omega arith))))

@@ -22,12 +22,12 @@ then_numbers_at t = and 1 then_numbers_kinds.ps (is 1 then_numbers_kinds.ps μ-t
 abbrev then_numbers_below : ℕ → In 1 then_numbers_kinds.ps
 then_numbers_below t = and 1 then_numbers_kinds.ps (falls 1 then_numbers_kinds.ps ◌<◌ μ-then-numbers t) then_numbers_lem.Pre
 
-pub +then-numbers-spec : {M : Type 1} → statement M
+pub +then_numbers_spec : {M : Type 1} → statement M
 unfolding then_numbers
-+then-numbers-spec = close μ-then-numbers λ t. then_numbers_lts.spec (then_number_reads.Asked, then_number_reads.Learnt, then_numbers_below t, then_numbers_lem.Post)
++then_numbers_spec = close μ-then-numbers λ t. then_numbers_lts.spec (then_number_reads.Asked, then_number_reads.Learnt, then_numbers_below t, then_numbers_lem.Post)
     (then_numbers_at t)
     then_numbers_lem.Post
-    (λ c. rw c.if1.true refl)
+    (λ c. rw c.if-k-eq0.true refl)
     (λ c κs. tt)
     (λ c. omega arith)
     (λ c κs. (omega arith, tt))

@@ -8,10 +8,10 @@ use Rattle.numbers.proofs.Laws.{last_none, last_here, last_on}
 use Rattle.numbers.proofs.last_group.Statement.{statement}
 use Rattle.numbers.proofs.last_group.Tie as tie
 
-abbrev invariant_loop : tie.invariant_loop
+abbrev invariant_loop : tie.invariant-loop-i
 invariant_loop s at i₀ i = last_group s at ≡ last_group s i
 
-abbrev decreases_loop : tie.decreases_loop
+abbrev decreases_loop : tie.decreases-loop-i
 decreases_loop s at i₀ i = length s - i
 
 pub last_group_spec : {M : Type 1} → statement M
@@ -22,8 +22,8 @@ last_group_spec =
     decreases_loop
     (λ c. refl)
     (λ c. search rules)
-    (λ c. let l = c.before.before.before.loop in sym (l.invariant ∙ last_here _ _ c.before.before.loop-test.true c.if1.true))
+    (λ c. let l = c.before.before.before.loop-i in sym (l.invariant ∙ last_here _ _ c.before.before.loop-i-test.true c.if-s-i-lt128.true))
     (λ c. search rules)
     (λ c. search rules)
-    (λ c. let l = c.before.before.before.loop in l.invariant ∙ last_on _ _ c.before.before.loop-test.true c.if1.false)
-    (λ c. sym (c.before.loop.invariant ∙ last_none _ _ c.loop-test.false)))
+    (λ c. let l = c.before.before.before.loop-i in l.invariant ∙ last_on _ _ c.before.before.loop-i-test.true c.if-s-i-lt128.false)
+    (λ c. sym (c.before.loop-i.invariant ∙ last_none _ _ c.loop-i-test.false)))

@@ -10,9 +10,9 @@ number_spec =
     tie.close
     (tie.spec
     (λ c κs. tt)
-    (λ c. let a = c.before.before.before.args in ends_short a.s.now a.at _ c.before.last_group.ensures c.if1.true)
+    (λ c. let a = c.before.before.before.args in ends_short a.s.now a.at _ c.before.last_group-end.ensures c.if-s-end.true)
     (λ c. let a = c.before.before.before.args in omega (arith, last_after a.s.now a.at))
-    (λ c. let l = c.before.before in let a = l.before.before.args in ends_long a.s.now a.at _ l.last_group.ensures c.before.if1.false c.if2.true)
+    (λ c. let l = c.before.before in let a = l.before.before.args in ends_long a.s.now a.at _ l.last_group-end.ensures c.before.if-s-end.false c.if-at-end.true)
     (λ c. let a = c.before.before.before.before.args in omega (arith, last_after a.s.now a.at))
     (λ c. search rules)
     (λ c κs. let a = c.before.before.before.before.args in let h = last_after a.s.now a.at in (omega arith, omega arith))
@@ -20,13 +20,13 @@ number_spec =
     (λ c.
     let l = c.before.before.before.before.before in
     let a = l.before.before.args in
-    record { fits = is_below a.s.now a.at l.last_group.result _ c.if3.true })
+    record { fits = is_below a.s.now a.at l.last_group-end.result _ c.if-shortest-fits.true })
     (λ c. search rules)
     (λ c.
     let l = c.before.before.before.before.before in
     let a = l.before.before.args in
-    rw c.if3.true at (ends_well a.s.now a.at _ _ l.last_group.ensures c.before.before.before.before.if1.false c.before.before.groups_value.ensures.0))
+    rw c.if-shortest-fits.true at (ends_well a.s.now a.at _ _ l.last_group-end.ensures c.before.before.before.before.if-s-end.false c.before.before.groups_value-value.ensures.0))
     (λ c.
     let l = c.before.before.before.before.before in
     let a = l.before.before.args in
-    rw c.if3.false at (ends_well a.s.now a.at _ _ l.last_group.ensures c.before.before.before.before.if1.false c.before.before.groups_value.ensures.0)))
+    rw c.if-shortest-fits.false at (ends_well a.s.now a.at _ _ l.last_group-end.ensures c.before.before.before.before.if-s-end.false c.before.before.groups_value-value.ensures.0)))

@@ -6,11 +6,11 @@ use Rattle.model.proofs.DeniedReads.{started_asked, readable_by_answer}
 use Rattle.operations.proofs.readable.Statement.{statement}
 use Rattle.operations.proofs.readable.Tie as tie
 
-returns : tie.Need-returns
+returns : tie.Need-returns-then-is_read
 returns c =
     let t = c.before in
     let s = t.before.before in
-    let r : is_read s.args.o ≡ true = sym t.before.is_read.ensures ∙ t.if1.true in
+    let r : is_read s.args.o ≡ true = sym t.before.is_read.ensures ∙ t.if-is_read.true in
     let e = s.requires.0.answered.answered in
     rw (r, c.readable.ensures, e) (readable_by_answer _ s.args.o r (started_asked _ s.args.o (rw e at s.requires.1)))
 
@@ -20,4 +20,4 @@ readable_spec =
     (λ c κs. tt)
     (λ c κs. c.before.before.requires.0.answered.answered)
     returns
-    (λ c. simp (sym c.before.is_read.ensures ∙ c.if1.false)))
+    (λ c. simp (sym c.before.is_read.ensures ∙ c.if-is_read.false)))

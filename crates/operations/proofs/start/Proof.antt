@@ -14,18 +14,18 @@ start_spec =
     (λ c.
     let f = c.before.before.before in
     rw c.told.ensures
-    (start_early f.before.before.args.s.now f.before.before.args.o f.start_answer.result f.start_answer.ensures
-    (sym c.before.before.accepts.ensures ∙ not-true _ c.before.if1.true)))
+    (start_early f.before.before.args.s.now f.before.before.args.o f.start_answer-first.result f.start_answer-first.ensures
+    (sym c.before.before.accepts.ensures ∙ not-true _ c.before.if-not-accepts.true)))
     (λ c κs. tt)
     (λ c κs.
     let f = c.before.before.before.before.before in
-    start_begins f.before.before.args.s.now f.before.before.args.o f.start_answer.result f.start_answer.ensures
-    (sym c.before.before.before.before.accepts.ensures ∙ not-false _ c.before.before.before.if1.false)
-    c.before.operation_answer.result c.before.operation_answer.ensures)
+    start_begins f.before.before.args.s.now f.before.before.args.o f.start_answer-first.result f.start_answer-first.ensures
+    (sym c.before.before.before.before.accepts.ensures ∙ not-false _ c.before.before.before.if-not-accepts.false)
+    c.before.operation_answer-answer.result c.before.operation_answer-answer.ensures)
     (λ c κs. tt)
     (λ c.
     let f = c.before.before.before.before.before.before.before in
-    rw (c.told2.ensures, c.before.started.ensures)
-    (start_goes f.before.before.args.s.now f.before.before.args.o f.start_answer.result f.start_answer.ensures
-    (sym c.before.before.before.before.before.before.accepts.ensures ∙ not-false _ c.before.before.before.before.before.if1.false)
-    c.before.before.before.operation_answer.result c.before.before.before.operation_answer.ensures)))
+    rw (c.told-2.ensures, c.before.started.ensures)
+    (start_goes f.before.before.args.s.now f.before.before.args.o f.start_answer-first.result f.start_answer-first.ensures
+    (sym c.before.before.before.before.before.before.accepts.ensures ∙ not-false _ c.before.before.before.before.before.if-not-accepts.false)
+    c.before.before.before.operation_answer-answer.result c.before.before.before.operation_answer-answer.ensures)))

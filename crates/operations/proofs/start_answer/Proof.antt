@@ -12,5 +12,5 @@ start_answer_spec =
     (λ c κs. tt)
     (λ c κs. tt)
     (λ c.
-    rw (c.or_else.ensures, c.before.check.ensures, c.before.before.is_busy.ensures, c.before.before.before.ready.ensures, c.before.before.before.before.progress.ensures)
+    rw (c.or_else.ensures, c.before.check.ensures, c.before.before.is_busy.ensures, c.before.before.before.ready-ready.ensures, c.before.before.before.before.progress-progress.ensures)
     (start_asked c.before.before.before.before.before.args.s.now)))

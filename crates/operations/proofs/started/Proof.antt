@@ -11,5 +11,5 @@ started_spec =
     (λ c κs. search rules)
     (λ c κs. tt)
     (λ c.
-    rw (c.put_errors.ensures, c.before.before.begin.ensures, c.before.before.before.before.recorded.ensures)
+    rw (c.put_errors.ensures, c.before.before.begin.ensures, c.before.before.before.before.recorded-errors.ensures)
     (begin_records c.before.before.before.before.before.before.requires)))

@@ -7,4 +7,4 @@ starts_spec =
     tie.close (tie.spec
     (λ c κs. tt)
     (λ c κs. tt)
-    (λ c. simp (c.is_denied_read.ensures, c.before.accepts.ensures)))
+    (λ c. simp (c.is_denied_read-denied.ensures, c.before.accepts-accepted.ensures)))

@@ -4,17 +4,17 @@ use borrow.Author.Rules.{rules}
 use Rattle.payloads.proofs.groups_of.Statement.{statement}
 use Rattle.payloads.proofs.groups_of.Tie as tie
 
-returns : tie.Need-returns
-returns c = one_group _ c.if1.true
+returns : tie.Need-returns-then-v-lt128
+returns c = one_group _ c.if-v-lt128.true
 
-returns_2 : tie.Need-returns-2
-returns_2 c = two_groups _ c.before.if1.false c.if2.true
+returns_2 : tie.Need-returns-then-w-lt128
+returns_2 c = two_groups _ c.before.if-v-lt128.false c.if-w-lt128.true
 
-returns_3 : tie.Need-returns-3
-returns_3 c = three_groups _ c.before.before.if1.false c.before.if2.false c.if3.true
+returns_3 : tie.Need-returns-then-x-lt128
+returns_3 c = three_groups _ c.before.before.if-v-lt128.false c.before.if-w-lt128.false c.if-x-lt128.true
 
-returns_4 : tie.Need-returns-4
-returns_4 c = four_groups _ c.before.before.if1.false c.before.if2.false c.if3.false c.before.before.before.requires
+returns_4 : tie.Need-returns
+returns_4 c = four_groups _ c.before.before.if-v-lt128.false c.before.if-w-lt128.false c.if-x-lt128.false c.before.before.before.requires
 
 pub groups_of_spec : {M : Type 1} → statement M
 groups_of_spec =

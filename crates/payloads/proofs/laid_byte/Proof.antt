@@ -8,30 +8,30 @@ use borrow.Author.Rules.{rules}
 use Rattle.payloads.proofs.laid_byte.Statement.{statement}
 use Rattle.payloads.proofs.laid_byte.Tie as tie
 
-returns : tie.Need-returns
+returns : tie.Need-returns-then-j-n
 returns c =
     let s = c.before.before.before.before in
     let a = s.args in
     let four : length a.g.bytes ≡ 4 = search rules in
-    (c.wide.ensures.0 ∙ laid_group a.g a.bytes.now four s.requires.0 a.j c.before.before.if1.true, c.wide.ensures.1)
+    (c.wide.ensures.0 ∙ laid_group a.g a.bytes.now four s.requires.0 a.j c.before.before.if-j-n.true, c.wide.ensures.1)
 
-returns_2 : tie.Need-returns-2
+returns_2 : tie.Need-returns-then-k-eq0
 returns_2 c =
     let s = c.before.before.before in
     let a = s.args in
     let four : length a.g.bytes ≡ 4 = search rules in
-    let z = c.if2.true in
-    let y = c.before.if1.false in
+    let z = c.if-k-eq0.true in
+    let y = c.before.if-j-n.false in
     (laid_length a.g a.bytes.now four s.requires.0 a.j (omega arith), omega arith)
 
-returns_3 : tie.Need-returns-3
+returns_3 : tie.Need-returns-then-i-bytes
 returns_3 c =
     let s = c.before.before.before.before.before.before in
     let a = s.args in
     let four : length a.g.bytes ≡ 4 = search rules in
-    (c.wide2.ensures.0 ∙ laid_data a.g a.bytes.now four s.requires.0 a.j (a.j - a.g.count - 1) (omega arith) (omega arith), c.wide2.ensures.1)
+    (c.wide-then-i-bytes.ensures.0 ∙ laid_data a.g a.bytes.now four s.requires.0 a.j (a.j - a.g.count - 1) (omega arith) (omega arith), c.wide-then-i-bytes.ensures.1)
 
-returns_4 : tie.Need-returns-4
+returns_4 : tie.Need-returns
 returns_4 c =
     let s = c.before.before.before.before in
     let a = s.args in

@@ -14,10 +14,10 @@ returns c =
     let l = laid a.g a.bytes.now in
     rw (
       word_at l a.i (omega (arith, laid_long a.g a.bytes.now s.requires.0 s.requires.1)),
-      ← c.before.before.before.laid_byte.ensures.0,
-      ← c.before.before.laid-byte2.ensures.0,
-      ← c.before.laid-byte3.ensures.0,
-      ← c.laid-byte4.ensures.0,
+      ← c.before.before.before.laid_byte-a.ensures.0,
+      ← c.before.before.laid_byte-b.ensures.0,
+      ← c.before.laid_byte-c.ensures.0,
+      ← c.laid_byte-d.ensures.0,
     ) refl
 
 pub laid_word_spec : {M : Type 1} → statement M

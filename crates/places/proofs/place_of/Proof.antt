@@ -20,27 +20,27 @@ place_of_spec =
     (λ c.
     let t = c.before.before.before.before.before in
     let s = t.before.before.before in
-    let bank = sym t.before.is_bank_erase.ensures ∙ t.if1.true in
-    let first = ap (λ (w : BusWord). w.0) c.before.first_word.ensures in
+    let bank = sym t.before.is_bank_erase.ensures ∙ t.if-is_bank_erase.true in
+    let first = ap (λ (w : BusWord). w.0) c.before.first_word-first.ensures in
     omega (arith, first, c.before.before.data_image_page.ensures.1, bank_words_le s.args.d s.args.o s.requires.1 bank))
     (λ c. simp (
-      c.before.first_word.ensures,
+      c.before.first_word-first.ensures,
       c.before.before.data_image_page.ensures.0,
-      c.before.before.before.bank_of.ensures.0,
+      c.before.before.before.bank_of-bank.ensures.0,
       c.before.before.before.before.page_of.ensures.0,
-      sym c.before.before.before.before.before.before.is_bank_erase.ensures ∙ c.before.before.before.before.before.if1.true,
+      sym c.before.before.before.before.before.before.is_bank_erase.ensures ∙ c.before.before.before.before.before.if-is_bank_erase.true,
     ))
     (λ c κs. tt)
     (λ c κs. tt)
     (λ c.
     let t = c.before.before in
     let s = t.before.before.before in
-    let span = sym t.before.is_bank_erase.ensures ∙ t.if1.false in
-    omega (arith, c.span_address.ensures.0, span_address_fits s.args.d s.args.o s.args.k s.requires.0 s.requires.1 s.requires.2 span s.requires.3))
+    let span = sym t.before.is_bank_erase.ensures ∙ t.if-is_bank_erase.false in
+    omega (arith, c.span_address-at.ensures.0, span_address_fits s.args.d s.args.o s.args.k s.requires.0 s.requires.1 s.requires.2 span s.requires.3))
     (λ c κs. search rules)
     (λ c. simp (
       c.word_at.ensures,
-      c.before.span_address.ensures.0,
-      c.before.before.is_information.ensures,
-      sym c.before.before.before.before.is_bank_erase.ensures ∙ c.before.before.before.if1.false,
+      c.before.span_address-at.ensures.0,
+      c.before.before.is_information-information.ensures,
+      sym c.before.before.before.before.is_bank_erase.ensures ∙ c.before.before.before.if-is_bank_erase.false,
     )))

@@ -10,4 +10,4 @@ span_address_spec =
     (λ c. search rules)
     (λ c. search rules)
     (λ c. search rules)
-    (λ c. (simp c.before.span_start.ensures, search rules)))
+    (λ c. (simp c.before.span_start-start.ensures, search rules)))

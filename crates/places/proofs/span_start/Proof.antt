@@ -10,5 +10,5 @@ span_start_spec =
     (λ c κs. tt)
     (λ c κs. tt)
     (λ c κs. search rules)
-    (λ c. simp (c.page_start.ensures, c.before.page_of.ensures.0, sym c.before.before.before.is_page_erase.ensures ∙ c.before.before.if1.true))
-    (λ c. simp (sym c.before.is_page_erase.ensures ∙ c.if1.false)))
+    (λ c. simp (c.page_start.ensures, c.before.page_of.ensures.0, sym c.before.before.before.is_page_erase.ensures ∙ c.before.before.if-is_page_erase.true))
+    (λ c. simp (sym c.before.is_page_erase.ensures ∙ c.if-is_page_erase.false)))

@@ -7,5 +7,5 @@ pub span_words_spec : {M : Type 1} → statement M
 span_words_spec =
     tie.close (tie.spec
     (λ c κs. tt)
-    (λ c. simp (sym c.before.is_page_erase.ensures ∙ c.if1.true))
-    (λ c. simp (sym c.before.is_page_erase.ensures ∙ c.if1.false)))
+    (λ c. simp (sym c.before.is_page_erase.ensures ∙ c.if-is_page_erase.true))
+    (λ c. simp (sym c.before.is_page_erase.ensures ∙ c.if-is_page_erase.false)))

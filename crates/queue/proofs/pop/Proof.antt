@@ -11,7 +11,7 @@ returns : tie.Need-returns
 returns c =
     let s = c.before.before.before.before in
     let long : length s.args.q.words ≡ 16 = search rules in
-    kept_is_popped s.args.q long s.requires.1 c.before.kept.ensures (omega arith)
+    kept_is_popped s.args.q long s.requires.1 c.before.kept-words.ensures (omega arith)
 
 pub pop_spec : {M : Type 1} → statement M
 pop_spec =

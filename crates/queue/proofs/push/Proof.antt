@@ -11,7 +11,7 @@ returns : tie.Need-returns
 returns c =
     let s = c.before.before.before.before in
     let long : length s.args.q.words ≡ 16 = search rules in
-    stored_is_pushed s.args.q s.args.word long s.requires c.before.kept.ensures (omega arith) (omega arith) (omega arith)
+    stored_is_pushed s.args.q s.args.word long s.requires c.before.kept-words.ensures (omega arith) (omega arith) (omega arith)
 
 pub push_spec : {M : Type 1} → statement M
 push_spec =

@@ -17,59 +17,59 @@ push_spec =
     let r = c.before.before.before in
     let a = r.before.before in
     rw c.number.ensures
-    (push_early a.args.s.now a.args.word r.ready.result
-    r.ready.ensures
-    (sym c.before.before.accepts.ensures ∙ not-true _ c.before.if1.true)))
+    (push_early a.args.s.now a.args.word r.ready-ready.result
+    r.ready-ready.ensures
+    (sym c.before.before.accepts.ensures ∙ not-true _ c.before.if-not-accepts.true)))
     (λ c κs. tt)
     (λ c. search rules)
     (λ c. search rules)
     (λ c.
     let r = c.before.before.before.before.before.before in
     let a = r.before.before in
-    push_idle a.args.s.now a.args.word r.ready.result
-    r.ready.ensures
-    (sym c.before.before.before.before.before.accepts.ensures ∙ not-false _ c.before.before.before.before.if1.false)
-    (sym c.before.before.progress.ensures ∙ c.enum_told.given.1))
+    push_idle a.args.s.now a.args.word r.ready-ready.result
+    r.ready-ready.ensures
+    (sym c.before.before.before.before.before.accepts.ensures ∙ not-false _ c.before.before.before.before.if-not-accepts.false)
+    (sym c.before.before.progress-progress.ensures ∙ c.enum_told-1.given.1))
     (λ c. search rules)
     (λ c.
     let r = c.before.before.before.before.before.before.before.before in
     let a = r.before.before in
-    push_other a.args.s.now a.args.word r.ready.result
-    r.ready.ensures
-    (sym c.before.before.before.before.before.before.before.accepts.ensures ∙ not-false _ c.before.before.before.before.before.before.if1.false)
-    c.before.before.progress2.given.0.0 (sym c.before.before.before.before.progress.ensures ∙ c.before.before.progress2.given.1) c.match2.keys2)
+    push_other a.args.s.now a.args.word r.ready-ready.result
+    r.ready-ready.ensures
+    (sym c.before.before.before.before.before.before.before.accepts.ensures ∙ not-false _ c.before.before.before.before.before.before.if-not-accepts.false)
+    c.before.before.progress-1.given.0.0 (sym c.before.before.before.before.progress-progress.ensures ∙ c.before.before.progress-1.given.1) c.in_default-work.keys2)
     (λ c κs. tt)
     (λ c κs. tt)
     (λ c.
     let m = c.before.before.before.before.before in
     let r = m.before.before.before.before.before.before.before.before.before in
     let a = r.before.before in
-    push_all a.args.s.now a.args.word r.ready.result
-    r.ready.ensures
-    (sym m.before.before.before.before.before.before.before.before.accepts.ensures ∙ not-false _ m.before.before.before.before.before.before.before.if1.false)
-    _ _ (sym m.before.before.before.before.before.progress.ensures ∙ m.before.before.before.progress2.given.1 ∙ ap Running m.work.given.1)
-    (rw c.before.before.programs.ensures at (sym c.before.pushed_all.ensures ∙ c.if2.true)))
+    push_all a.args.s.now a.args.word r.ready-ready.result
+    r.ready-ready.ensures
+    (sym m.before.before.before.before.before.before.before.before.accepts.ensures ∙ not-false _ m.before.before.before.before.before.before.before.if-not-accepts.false)
+    _ _ (sym m.before.before.before.before.before.progress-progress.ensures ∙ m.before.before.before.progress-1.given.1 ∙ ap Running m.work-1.given.1)
+    (rw c.before.before.programs-programs.ensures at (sym c.before.pushed_all.ensures ∙ c.if-pushed_all.true)))
     (λ c κs. tt)
     (λ c.
     let m = c.before.before.before.before.before.before.before in
     let r = m.before.before.before.before.before.before.before.before.before in
     let a = r.before.before in
-    push_full a.args.s.now a.args.word r.ready.result
-    r.ready.ensures
-    (sym m.before.before.before.before.before.before.before.before.accepts.ensures ∙ not-false _ m.before.before.before.before.before.before.before.if1.false)
-    _ _ (sym m.before.before.before.before.before.progress.ensures ∙ m.before.before.before.progress2.given.1 ∙ ap Running m.work.given.1)
-    (rw c.before.before.before.before.programs.ensures at (sym c.before.before.before.pushed_all.ensures ∙ c.before.before.if2.false))
-    (rw c.before.before.before.before.programs.ensures at (sym c.before.is_full.ensures ∙ c.if3.true)))
-    (λ c κs. leb-false 16 _ (sym c.before.before.is_full.ensures ∙ c.before.if3.false))
+    push_full a.args.s.now a.args.word r.ready-ready.result
+    r.ready-ready.ensures
+    (sym m.before.before.before.before.before.before.before.before.accepts.ensures ∙ not-false _ m.before.before.before.before.before.before.before.if-not-accepts.false)
+    _ _ (sym m.before.before.before.before.before.progress-progress.ensures ∙ m.before.before.before.progress-1.given.1 ∙ ap Running m.work-1.given.1)
+    (rw c.before.before.before.before.programs-programs.ensures at (sym c.before.before.before.pushed_all.ensures ∙ c.before.before.if-pushed_all.false))
+    (rw c.before.before.before.before.programs-programs.ensures at (sym c.before.is_full.ensures ∙ c.if-is_full.true)))
+    (λ c κs. leb-false 16 _ (sym c.before.before.is_full.ensures ∙ c.before.if-is_full.false))
     (λ c κs. tt)
     (λ c.
     let m = c.before.before.before.before.before.before.before.before.before.before in
     let r = m.before.before.before.before.before.before.before.before.before in
     let a = r.before.before in
-    rw (c.put_programs.ensures, c.before.push.ensures, c.before.before.before.before.before.before.before.programs.ensures)
-    (push_joins a.args.s.now a.args.word r.ready.result
-    r.ready.ensures
-    (sym m.before.before.before.before.before.before.before.before.accepts.ensures ∙ not-false _ m.before.before.before.before.before.before.before.if1.false)
-    _ _ (sym m.before.before.before.before.before.progress.ensures ∙ m.before.before.before.progress2.given.1 ∙ ap Running m.work.given.1)
-    (rw c.before.before.before.before.before.before.before.programs.ensures at (sym c.before.before.before.before.before.before.pushed_all.ensures ∙ c.before.before.before.before.before.if2.false))
-    (rw c.before.before.before.before.before.before.before.programs.ensures at (sym c.before.before.before.before.is_full.ensures ∙ c.before.before.before.if3.false)))))
+    rw (c.put_programs.ensures, c.before.push.ensures, c.before.before.before.before.before.before.before.programs-programs.ensures)
+    (push_joins a.args.s.now a.args.word r.ready-ready.result
+    r.ready-ready.ensures
+    (sym m.before.before.before.before.before.before.before.before.accepts.ensures ∙ not-false _ m.before.before.before.before.before.before.before.if-not-accepts.false)
+    _ _ (sym m.before.before.before.before.before.progress-progress.ensures ∙ m.before.before.before.progress-1.given.1 ∙ ap Running m.work-1.given.1)
+    (rw c.before.before.before.before.before.before.before.programs-programs.ensures at (sym c.before.before.before.before.before.before.pushed_all.ensures ∙ c.before.before.before.before.before.if-pushed_all.false))
+    (rw c.before.before.before.before.before.before.before.programs-programs.ensures at (sym c.before.before.before.before.is_full.ensures ∙ c.before.before.before.if-is_full.false)))))

@@ -7,5 +7,5 @@ pub or_else_spec : {M : Type 1} → statement M
 or_else_spec =
     tie.close (tie.spec
     (λ c κs. tt)
-    (λ c. simp (sym c.before.accepts.ensures ∙ c.if1.true))
-    (λ c. simp (sym c.before.accepts.ensures ∙ c.if1.false)))
+    (λ c. simp (sym c.before.accepts.ensures ∙ c.if-accepts.true))
+    (λ c. simp (sym c.before.accepts.ensures ∙ c.if-accepts.false)))

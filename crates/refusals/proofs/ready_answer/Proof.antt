@@ -8,4 +8,4 @@ ready_answer_spec =
     (λ c κs. tt)
     (λ c κs. tt)
     (λ c κs. tt)
-    (λ c. rw (c.or_else.ensures, c.before.check.ensures, c.before.before.phase_answer.ensures)))
+    (λ c. rw (c.or_else.ensures, c.before.check.ensures, c.before.before.phase_answer-phase.ensures)))

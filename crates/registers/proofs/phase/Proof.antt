@@ -8,7 +8,7 @@ pub phase_spec : {M : Type 1} → statement M
 phase_spec =
     tie.close (tie.spec
     (λ c. search rules)
-    (λ c. simp (eq-eqb _ _ c.if1.true))
+    (λ c. simp (eq-eqb _ _ c.if-s-eq1.true))
     (λ c. search rules)
-    (λ c. simp (ne_eqb _ _ c.before.before.if1.false, eq-eqb _ _ c.if2.true))
-    (λ c. simp (ne_eqb _ _ c.before.before.if1.false, ne_eqb _ _ c.if2.false)))
+    (λ c. simp (ne_eqb _ _ c.before.before.if-s-eq1.false, eq-eqb _ _ c.if-s-eq2.true))
+    (λ c. simp (ne_eqb _ _ c.before.before.if-s-eq1.false, ne_eqb _ _ c.if-s-eq2.false)))

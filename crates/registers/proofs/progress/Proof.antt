@@ -11,5 +11,5 @@ progress_spec =
     tie.close (tie.spec
     (λ c. search rules)
     (λ c κs. tt)
-    (λ c. simp (c.work.ensures, ne_eqb _ _ c.before.if1.true))
-    (λ c. simp (eq-eqb _ _ c.if1.false)))
+    (λ c. simp (c.work.ensures, ne_eqb _ _ c.before.if-s-ne0.true))
+    (λ c. simp (eq-eqb _ _ c.if-s-ne0.false)))

@@ -10,4 +10,4 @@ put_inputs_spec =
     (λ c. search rules)
     (λ c κs. tt)
     (λ c. search rules)
-    (λ c. rw (c.flag-of2.ensures.0, c.before.flag_of.ensures.0)))
+    (λ c. rw (c.flag_of-2.ensures.0, c.before.flag_of.ensures.0)))

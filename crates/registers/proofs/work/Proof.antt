@@ -13,14 +13,14 @@ work_spec =
     (λ c. search rules)
     (λ c.
     let t = c.before in
-    let op = t.before.before.before.operation.ensures in
-    simp (op, rw op at (sym t.before.is_read.ensures ∙ t.if1.true)))
+    let op = t.before.before.before.operation-op.ensures in
+    simp (op, rw op at (sym t.before.is_read.ensures ∙ t.if-is_read.true)))
     (λ c κs. tt)
     (λ c.
     let t = c.before.before in
-    let op = t.before.before.before.operation.ensures in
-    simp (op, rw op at (sym t.before.is_read.ensures ∙ t.if1.false), rw op at (sym c.before.is_program.ensures ∙ c.if2.true)))
+    let op = t.before.before.before.operation-op.ensures in
+    simp (op, rw op at (sym t.before.is_read.ensures ∙ t.if-is_read.false), rw op at (sym c.before.is_program.ensures ∙ c.if-is_program.true)))
     (λ c.
     let t = c.before.before in
-    let op = t.before.before.before.operation.ensures in
-    simp (op, rw op at (sym t.before.is_read.ensures ∙ t.if1.false), rw op at (sym c.before.is_program.ensures ∙ c.if2.false))))
+    let op = t.before.before.before.operation-op.ensures in
+    simp (op, rw op at (sym t.before.is_read.ensures ∙ t.if-is_read.false), rw op at (sym c.before.is_program.ensures ∙ c.if-is_program.false))))

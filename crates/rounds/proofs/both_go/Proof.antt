@@ -17,4 +17,4 @@ both_go_spec =
     (λ c.
     let p = c.before.before.before.before in
     rw (c.step_served.ensures, c.before.host_served.ensures, p.before.before.before.Ready-read.ensures)
-    (ap (beside (served_host _)) p.ready_step.ensures ∙ left_both _ _ _)))
+    (ap (beside (served_host _)) p.ready_step-told.ensures ∙ left_both _ _ _)))

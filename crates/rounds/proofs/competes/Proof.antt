@@ -14,9 +14,9 @@ competes_spec =
     (λ c κs.
     let t = c.before.before.before in
     let j = t.before.before.requires in
-    record { lent = j.lent; moves = sym (ready_moves _ _ j.ready) ∙ (sym t.before.would_move.ensures ∙ t.if1.true) })
+    record { lent = j.lent; moves = sym (ready_moves _ _ j.ready) ∙ (sym t.before.would_move.ensures ∙ t.if-would_move.true) })
     (λ c.
     let p = c.before.before.before in
-    rw (c.next_bank.ensures.0, c.before.bank_of.ensures.0, c.before.before.page_of.ensures.0, p.pages.ensures)
-    (rw (sym p.before.before.would_move.ensures ∙ p.before.if1.true)))
-    (λ c. rw (sym c.before.would_move.ensures ∙ c.if1.false)))
+    rw (c.next_bank.ensures.0, c.before.bank_of-host.ensures.0, c.before.before.page_of.ensures.0, p.pages.ensures)
+    (rw (sym p.before.before.would_move.ensures ∙ p.before.if-would_move.true)))
+    (λ c. rw (sym c.before.would_move.ensures ∙ c.if-would_move.false)))

@@ -12,11 +12,11 @@ next_bank_spec =
     (λ c κs. tt)
     (λ c κs.
     let p = going_place c.before.before.before.requires in
-    rw (c.before.operation.ensures, c.before.before.pages.ensures) (p.0, p.1, p.2, omega (arith, p.3, c.moved.ensures)))
+    rw (c.before.operation-op.ensures, c.before.before.pages-d.ensures) (p.0, p.1, p.2, omega (arith, p.3, c.moved-moved.ensures)))
     (λ c κs. tt)
     (λ c.
     let o = c.before.before.before in (
-      rw (c.bank_of_word.ensures.0, c.before.place_of.ensures, c.before.before.moved.ensures, o.operation.ensures, o.before.pages.ensures)
+      rw (c.bank_of_word.ensures.0, c.before.place_of.ensures, c.before.before.moved-moved.ensures, o.operation-op.ensures, o.before.pages-d.ensures)
           (going_bank o.before.before.requires),
       c.bank_of_word.ensures.1,
     )))

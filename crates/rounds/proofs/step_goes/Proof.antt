@@ -17,4 +17,4 @@ step_goes_spec =
     (λ c.
     let p = c.before.before.before.before.before.before in
     rw (c.step_served.ensures, c.before.host_unserved.ensures, c.before.before.put_lost.ensures)
-    (ap (instead _) p.ready_step.ensures ∙ left_step_goes p.before.before.before.before.requires)))
+    (ap (instead _) p.ready_step-told.ensures ∙ left_step_goes p.before.before.before.before.requires)))

@@ -6,17 +6,17 @@ use borrow.Author.Rules.{rules}
 use Rattle.scan_pages.proofs.address.Statement.{statement}
 use Rattle.scan_pages.proofs.address.Tie as tie
 
-returns : tie.Need-returns
+returns : tie.Need-returns-then-w-d
 unfolding word_address
-returns c = rw (lt-ltb _ _ c.if1.true)
+returns c = rw (lt-ltb _ _ c.if-w-d.true)
 
-returns_2 : tie.Need-returns-2
+returns_2 : tie.Need-returns-then-w-lt-INFO_WORDS
 unfolding word_address
-returns_2 c = rw (le-ltb _ _ c.before.if1.false) (omega arith)
+returns_2 c = rw (le-ltb _ _ c.before.if-w-d.false) (omega arith)
 
-returns_3 : tie.Need-returns-3
+returns_3 : tie.Need-returns
 unfolding word_address
-returns_3 c = rw (le-ltb _ _ c.before.if1.false)
+returns_3 c = rw (le-ltb _ _ c.before.if-w-d.false)
 
 pub address_spec : {M : Type 1} → statement M
 address_spec =

@@ -5,11 +5,11 @@ use borrow.Author.Rules.{rules}
 use Rattle.scan_pages.proofs.page_word.Statement.{statement}
 use Rattle.scan_pages.proofs.page_word.Tie as tie
 
-returns : tie.Need-returns
-returns c = omega (arith, low_page c.before.args.d c.before.args.p c.if1.true)
+returns : tie.Need-returns-then-p-d
+returns c = omega (arith, low_page c.before.args.d c.before.args.p c.if-p-d.true)
 
-returns_2 : tie.Need-returns-2
-returns_2 c = omega (arith, high_page c.before.args.d c.before.args.p c.if1.false)
+returns_2 : tie.Need-returns
+returns_2 c = omega (arith, high_page c.before.args.d c.before.args.p c.if-p-d.false)
 
 pub page_word_spec : {M : Type 1} → statement M
 page_word_spec =

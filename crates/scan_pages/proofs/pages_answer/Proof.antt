@@ -7,22 +7,22 @@ use borrow.Author.Rules.{rules}
 use Rattle.scan_pages.proofs.pages_answer.Statement.{statement}
 use Rattle.scan_pages.proofs.pages_answer.Tie as tie
 
-returns : tie.Need-returns
+returns : tie.Need-returns-then-not-accepts
 returns c =
     let t = c.before in
-    c.number.ensures ∙ refused_early _ _ _ _ _ t.before.before.whole_answer.ensures (sym t.before.accepts.ensures ∙ not-true _ t.if1.true)
+    c.number.ensures ∙ refused_early _ _ _ _ _ t.before.before.whole_answer-first.ensures (sym t.before.accepts.ensures ∙ not-true _ t.if-not-accepts.true)
 
-returns_2 : tie.Need-returns-2
+returns_2 : tie.Need-returns-then-serve
 returns_2 c =
     let e = c.before.before in
-    ap (λ (x : Bool). cond x 0 16) (sym c.if2.true)
-    ∙ by_pages _ _ _ _ _ e.before.before.whole_answer.ensures (sym e.before.accepts.ensures ∙ not-false _ e.if1.false) _ c.before.serve.ensures
+    ap (λ (x : Bool). cond x 0 16) (sym c.if-serve.true)
+    ∙ by_pages _ _ _ _ _ e.before.before.whole_answer-first.ensures (sym e.before.accepts.ensures ∙ not-false _ e.if-not-accepts.false) _ c.before.serve.ensures
 
-returns_3 : tie.Need-returns-3
+returns_3 : tie.Need-returns
 returns_3 c =
     let e = c.before.before in
-    ap (λ (x : Bool). cond x 0 16) (sym c.if2.false)
-    ∙ by_pages _ _ _ _ _ e.before.before.whole_answer.ensures (sym e.before.accepts.ensures ∙ not-false _ e.if1.false) _ c.before.serve.ensures
+    ap (λ (x : Bool). cond x 0 16) (sym c.if-serve.false)
+    ∙ by_pages _ _ _ _ _ e.before.before.whole_answer-first.ensures (sym e.before.accepts.ensures ∙ not-false _ e.if-not-accepts.false) _ c.before.serve.ensures
 
 pub pages_answer_spec : {M : Type 1} → statement M
 pages_answer_spec =

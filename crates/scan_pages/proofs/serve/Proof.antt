@@ -7,7 +7,7 @@ use Rattle.scan_pages.proofs.serve.Tie as tie
 
 returns : tie.Need-returns
 unfolding pages_serve stands_for
-returns c = simp (c.before.before.ruling-at2.ensures, c.before.before.before.ruling_at.ensures, c.before.before.before.before.pages.ensures)
+returns c = simp (c.before.before.ruling_at-second.ensures, c.before.before.before.ruling_at-first.ensures, c.before.before.before.before.pages.ensures)
 
 pub serve_spec : {M : Type 1} → statement M
 serve_spec =

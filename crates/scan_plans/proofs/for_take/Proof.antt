@@ -14,11 +14,11 @@ for_take_spec =
     (λ c.
     let t = c.before.before in
     let s = t.before.before in
-    none_waits_lem s.args.image.now s.args.a s.args.b s.requires t.survey_both.result t.survey_both.ensures (not-true _ c.if1.true))
+    none_waits_lem s.args.image.now s.args.a s.args.b s.requires t.survey_both-s.result t.survey_both-s.ensures (not-true _ c.if-not-s.true))
     (λ c κs.
     let t = c.before.before in
     let s = t.before.before in
-    oldest_inside s.args.image.now s.args.a s.args.b s.requires t.survey_both.result t.survey_both.ensures (not-false _ c.if1.false))
+    oldest_inside s.args.image.now s.args.a s.args.b s.requires t.survey_both-s.result t.survey_both-s.ensures (not-false _ c.if-not-s.false))
     (λ c. search rules)
     (λ c. search rules)
     (λ c.
@@ -26,11 +26,11 @@ for_take_spec =
     let e = p.before in
     let t = e.before.before in
     let s = t.before.before in
-    absurd (never s.args.image.now s.args.a s.args.b s.requires t.survey_both.result t.survey_both.ensures (not-false _ e.if1.false) p.payload_at.result p.payload_at.ensures c.enum_told.given.1))
+    absurd (never s.args.image.now s.args.a s.args.b s.requires t.survey_both-s.result t.survey_both-s.ensures (not-false _ e.if-not-s.false) p.payload_at-body.result p.payload_at-body.ensures c.enum_told-1.given.1))
     (λ c.
-    let f = c.before.body.given in
+    let f = c.before.body-1.given in
     let p = c.before.before.before in
     let e = p.before in
     let t = e.before.before in
     let s = t.before.before in
-    found_taken s.args.image.now s.args.a s.args.b s.requires t.survey_both.result t.survey_both.ensures (not-false _ e.if1.false) p.payload_at.result p.payload_at.ensures f.0.0 f.1))
+    found_taken s.args.image.now s.args.a s.args.b s.requires t.survey_both-s.result t.survey_both-s.ensures (not-false _ e.if-not-s.false) p.payload_at-body.result p.payload_at-body.ensures f.0.0 f.1))

@@ -8,15 +8,15 @@ use Rattle.scan_plans.proofs.Copying.{Copied, copied_turn, copied_end}
 use Rattle.scan_plans.proofs.scan_bytes.Statement.{statement}
 use Rattle.scan_plans.proofs.scan_bytes.Tie as tie
 
-abbrev invariant_loop : tie.invariant_loop
+abbrev invariant_loop : tie.invariant-loop-i
 invariant_loop payload start count bytes₀ i₀ bytes i = (i ≤ count) × Copied bytes (drop start payload) i
 
-abbrev decreases_loop : tie.decreases_loop
+abbrev decreases_loop : tie.decreases-loop-i
 decreases_loop payload start count bytes₀ i₀ bytes i = count - i
 
-loop_again : tie.Need-loop-preserved invariant_loop decreases_loop
+loop_again : tie.Need-loop-i-preserved invariant_loop decreases_loop
 loop_again c =
-    let l = c.before.before.loop in
+    let l = c.before.before.loop-i in
     let s = c.before.before.before in
     let a = s.args in
     let d : length (drop a.start a.payload.now) ≡ length a.payload.now - a.start = length-drop a.start a.payload.now in (
@@ -26,7 +26,7 @@ loop_again c =
 
 returns : tie.Need-returns invariant_loop decreases_loop
 returns c =
-    let l = c.before.loop in
+    let l = c.before.loop-i in
     let s = c.before.before in
     let a = s.args in
     let d : length (drop a.start a.payload.now) ≡ length a.payload.now - a.start = length-drop a.start a.payload.now in

@@ -24,7 +24,7 @@ erase_and_put_spec =
     let t = c.before.before.before.before.before in
     let o = t.before.before.before.before in
     let a = o.before.before.before.before.args in
-    cut_job _ _ _ (erase_job a.d a.q) _ (rw (o.page_erase.ensures, o.before.address.ensures) at t.drive.ensures) (ap not (ne_eqb _ 0 c.if1.true))
+    cut_job _ _ _ (erase_job a.d a.q) _ (rw (o.page_erase-o.ensures, o.before.address.ensures) at t.drive-told.ensures) (ap not (ne_eqb _ 0 c.if-told-ne0.true))
     (fill_job a.d a.q (scan_with a.serial a.bytes.now) ∷ zero_job a.d a.q ∷ []))
     (λ c κs. search rules)
     (λ c. search rules)
@@ -35,5 +35,5 @@ erase_and_put_spec =
     let o = t.before.before.before.before in
     let a = o.before.before.before.before.args in
     z.put.ensures
-    ∙ next_job _ _ _ (erase_job a.d a.q) _ (rw (o.page_erase.ensures, o.before.address.ensures) at t.drive.ensures) (ap is_on e.if1.false)
+    ∙ next_job _ _ _ (erase_job a.d a.q) _ (rw (o.page_erase-o.ensures, o.before.address.ensures) at t.drive-told.ensures) (ap is_on e.if-told-ne0.false)
     (fill_job a.d a.q (scan_with a.serial a.bytes.now) ∷ zero_job a.d a.q ∷ [])))

@@ -28,7 +28,7 @@ put_spec =
     let w = o.before.before in
     let a = w.before.before.before.args in
     cut_job _ _ _ (fill_job a.d a.p (scan_with a.serial a.bytes.now)) _
-    (rw (o.program.ensures, o.before.address.ensures, w.payload_words.ensures) at t.drive.ensures) (ap not (ne_eqb _ 0 c.if1.true)) (zero_job a.d a.p ∷ []))
+    (rw (o.program-o.ensures, o.before.address.ensures, w.payload_words-words.ensures) at t.drive-told.ensures) (ap not (ne_eqb _ 0 c.if-told-ne0.true)) (zero_job a.d a.p ∷ []))
     (λ c κs. search rules)
     (λ c. search rules)
     (λ c.
@@ -40,4 +40,4 @@ put_spec =
     let a = w.before.before.before.args in
     z.zero.ensures
     ∙ next_job _ _ _ (fill_job a.d a.p (scan_with a.serial a.bytes.now)) _
-    (rw (o.program.ensures, o.before.address.ensures, w.payload_words.ensures) at t.drive.ensures) (ap is_on e.if1.false) (zero_job a.d a.p ∷ [])))
+    (rw (o.program-o.ensures, o.before.address.ensures, w.payload_words-words.ensures) at t.drive-told.ensures) (ap is_on e.if-told-ne0.false) (zero_job a.d a.p ∷ [])))

@@ -5,10 +5,10 @@ use borrow.Author.Rules.{rules}
 use Rattle.sheet.proofs.lines.Statement.{statement}
 use Rattle.sheet.proofs.lines.Tie as tie
 
-abbrev invariant_loop : tie.invariant_loop
+abbrev invariant_loop : tie.invariant-loop-k
 invariant_loop row numbers count k₀ k = (k ≤ count) × (count ≤ 4096)
 
-abbrev decreases_loop : tie.decreases_loop
+abbrev decreases_loop : tie.decreases-loop-k
 decreases_loop row numbers count k₀ k = count - k
 
 pub lines_spec : {M : Type 1} → statement M
@@ -28,5 +28,5 @@ lines_spec =
     (λ c κs. tt)
     (λ c. omega arith)
     (λ c. omega arith)
-    (λ c. (omega arith, c.before.before.before.before.loop.invariant.1))
+    (λ c. (omega arith, c.before.before.before.before.loop-k.invariant.1))
     (λ c. tt))

@@ -16,7 +16,7 @@ run_spec =
     (λ c κs.
     let b = c.before.before.before in
     let a = b.before.before.before.args in
-    let e = ap (λ (l : BenchLeaves). l.told.numbers) b.bench_run.ensures in
+    let e = ap (λ (l : BenchLeaves). l.told.numbers) b.bench_run-ran.ensures in
     rw e (bench_few a.sheet.now (replicate 8192 0)))
     (λ c. search rules)
     (λ c κs. tt)

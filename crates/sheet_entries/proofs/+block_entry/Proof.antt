@@ -42,8 +42,8 @@ entry_at t = and 1 entry_kinds.ps (is 1 entry_kinds.ps μ-entry t) entry.Pre
 abbrev entry_below : ℕ → In 1 entry_kinds.ps
 entry_below t = and 1 entry_kinds.ps (falls 1 entry_kinds.ps ◌<◌ μ-entry t) entry.Pre
 
-pub +block-entry-spec : {M : Type 1} → statement M
-+block-entry-spec = close μ-block μ-entry
+pub +block_entry_spec : {M : Type 1} → statement M
++block_entry_spec = close μ-block μ-entry
     (λ t. block_lts.spec (number_reads.Asked, number_reads.Learnt, entry_below t, entry.Post, block_below t, block.Post, added_reads.Asked, added_reads.Learnt)
     (block_at t)
     block.Post
@@ -53,19 +53,19 @@ pub +block-entry-spec : {M : Type 1} → statement M
     (λ c.
     let n = c.before.before in
     let a = n.before.before.args in
-    let e = c.enum_told.given.1 in
-    e ∙ block_bad a.s.now a.at a.depth _ (sym e ∙ n.number.ensures))
+    let e = c.enum_told-1.given.1 in
+    e ∙ block_bad a.s.now a.at a.depth _ (sym e ∙ n.number-tag.ensures))
     (λ c.
     let t = c.before.before in
     let n = t.before.before in
     let a = n.before.before.args in
-    let e = sym t.tag.given.1 ∙ n.number.ensures in
-    block_done a.s.now a.at a.depth _ _ e c.if1.true)
+    let e = sym t.tag-1.given.1 ∙ n.number-tag.ensures in
+    block_done a.s.now a.at a.depth _ _ e c.if-value-eq0.true)
     (λ c κs.
     let t = c.before.before in
     let n = t.before.before in
     let a = n.before.before.args in
-    let e = sym t.tag.given.1 ∙ n.number.ensures in
+    let e = sym t.tag-1.given.1 ∙ n.number-tag.ensures in
     let h = number_falls a.s.now a.at a.depth _ _ e in
     (omega arith, tt))
     (λ c. search rules)
@@ -74,15 +74,15 @@ pub +block-entry-spec : {M : Type 1} → statement M
     let t = c.before.before.before.before.before in
     let n = t.before.before in
     let a = n.before.before.args in
-    let e = sym t.tag.given.1 ∙ n.number.ensures in
-    let f = c.enum-told2.given.1 in
-    f ∙ block_stops a.s.now a.at a.depth _ _ _ e c.before.before.before.if1.false (sym f ∙ c.before.before.entry.ensures))
+    let e = sym t.tag-1.given.1 ∙ n.number-tag.ensures in
+    let f = c.enum_told-in_default-first-1.given.1 in
+    f ∙ block_stops a.s.now a.at a.depth _ _ _ e c.before.before.before.if-value-eq0.false (sym f ∙ c.before.before.entry-first.ensures))
     (λ c κs.
     let t = c.before.before.before.before.before.before in
     let n = t.before.before in
     let a = n.before.before.args in
-    let e = sym t.tag.given.1 ∙ n.number.ensures in
-    let f = sym c.before.first.given.1 ∙ c.before.before.before.entry.ensures in
+    let e = sym t.tag-1.given.1 ∙ n.number-tag.ensures in
+    let f = sym c.before.first-1.given.1 ∙ c.before.before.before.entry-first.ensures in
     let h = number_falls a.s.now a.at a.depth _ _ e in
     let g = entry_past a.s.now a.at _ _ a.depth _ _ f in
     (omega arith, tt))
@@ -91,10 +91,10 @@ pub +block-entry-spec : {M : Type 1} → statement M
     let t = c.before.before.before.before.before.before.before.before in
     let n = t.before.before in
     let a = n.before.before.args in
-    let e = sym t.tag.given.1 ∙ n.number.ensures in
+    let e = sym t.tag-1.given.1 ∙ n.number-tag.ensures in
     let i = c.before.before.before in
-    let f = sym i.first.given.1 ∙ i.before.before.entry.ensures in
-    c.added.ensures ∙ ap (added_to _) c.before.block.ensures ∙ block_goes a.s.now a.at a.depth _ _ _ _ e i.before.before.before.if1.false f))
+    let f = sym i.first-1.given.1 ∙ i.before.before.entry-first.ensures in
+    c.added.ensures ∙ ap (added_to _) c.before.block.ensures ∙ block_goes a.s.now a.at a.depth _ _ _ _ e i.before.before.before.if-value-eq0.false f))
     (λ t. entry_lts.spec (stated_at_reads.Asked, stated_at_reads.Learnt, once_reads.Asked, once_reads.Learnt, number_to_reads.Asked, number_to_reads.Learnt, block_below t, block.Post, times_reads.Asked, times_reads.Learnt)
     (entry_at t)
     entry.Post
@@ -103,41 +103,41 @@ pub +block-entry-spec : {M : Type 1} → statement M
     (λ c.
     let i = c.before.before in
     let a = i.before.before.args in
-    c.once.ensures ∙ ap (λ (o : Stated). once_counted o.end) c.before.stated_at.ensures ∙ entry_one a.s.now a.at a.next a.tag a.depth i.if1.true)
+    c.once.ensures ∙ ap (λ (o : Stated). once_counted o.end) c.before.stated_at-stated.ensures ∙ entry_one a.s.now a.at a.next a.tag-1 a.depth i.if-value-eq0.true)
     (λ c κs. tt)
     (λ c κs. tt)
     (λ c.
     let i = c.before.before in
     let a = i.before.before.before.args in
-    c.once2.ensures ∙ ap once_counted c.before.number_to.ensures ∙ entry_three a.s.now a.at a.next a.tag a.depth i.if2.true)
+    c.once-then-tag-eq-RIGHTS.ensures ∙ ap once_counted c.before.number_to.ensures ∙ entry_three a.s.now a.at a.next a.tag-1 a.depth i.if-tag-eq-RIGHTS.true)
     (λ c κs. tt)
     (λ c. search rules)
     (λ c. search rules)
     (λ c.
     let n = c.before.before in
     let a = n.before.before.before.before.before.before.args in
-    let e = c.enum_told.given.1 in
-    e ∙ entry_bad a.s.now a.at a.next a.tag a.depth _ n.before.before.if3.true n.before.if4.true (sym e ∙ n.number-to2.ensures))
+    let e = c.enum_told-1.given.1 in
+    e ∙ entry_bad a.s.now a.at a.next a.tag-1 a.depth _ n.before.before.if-tag-eq-REPEAT.true n.before.if-depth-lt-MAX_DEPTH.true (sym e ∙ n.number_to-count.ensures))
     (λ c.
     let k = c.before.before in
     let n = k.before.before in
     let a = n.before.before.before.before.before.before.args in
-    let e = sym k.count.given.1 ∙ n.number-to2.ensures in
-    entry_zero a.s.now a.at a.next a.tag a.depth _ _ n.before.before.if3.true n.before.if4.true e c.if5.true)
+    let e = sym k.count-1.given.1 ∙ n.number_to-count.ensures in
+    entry_zero a.s.now a.at a.next a.tag-1 a.depth _ _ n.before.before.if-tag-eq-REPEAT.true n.before.if-depth-lt-MAX_DEPTH.true e c.if-value-eq0.true)
     (λ c. omega arith)
     (λ c κs.
     let k = c.before.before in
     let n = k.before.before in
     let a = n.before.before.before.before.before.before.args in
-    let e = sym k.count.given.1 ∙ n.number-to2.ensures in
-    let h = count_falls a.s.now a.at a.next a.tag a.depth _ _ e in
+    let e = sym k.count-1.given.1 ∙ n.number_to-count.ensures in
+    let h = count_falls a.s.now a.at a.next a.tag-1 a.depth _ _ e in
     (omega arith, tt))
     (λ c κs. tt)
     (λ c.
     let k = c.before.before.before.before in
     let n = k.before.before in
     let a = n.before.before.before.before.before.before.args in
-    let e = sym k.count.given.1 ∙ n.number-to2.ensures in
-    c.times.ensures ∙ ap (times_of _) c.before.block.ensures ∙ entry_times a.s.now a.at a.next a.tag a.depth _ _ n.before.before.if3.true n.before.if4.true e c.before.before.if5.false)
-    (λ c. let a = c.before.before.before.before.before.args in entry_deep a.s.now a.at a.next a.tag a.depth c.before.if3.true c.if4.false)
-    (λ c. let a = c.before.before.before.before.args in entry_none a.s.now a.at a.next a.tag a.depth c.before.before.if1.false c.before.if2.false c.if3.false))
+    let e = sym k.count-1.given.1 ∙ n.number_to-count.ensures in
+    c.times.ensures ∙ ap (times_of _) c.before.block.ensures ∙ entry_times a.s.now a.at a.next a.tag-1 a.depth _ _ n.before.before.if-tag-eq-REPEAT.true n.before.if-depth-lt-MAX_DEPTH.true e c.before.before.if-value-eq0.false)
+    (λ c. let a = c.before.before.before.before.before.args in entry_deep a.s.now a.at a.next a.tag-1 a.depth c.before.if-tag-eq-REPEAT.true c.if-depth-lt-MAX_DEPTH.false)
+    (λ c. let a = c.before.before.before.before.args in entry_none a.s.now a.at a.next a.tag-1 a.depth c.before.before.if-value-eq0.false c.before.if-tag-eq-RIGHTS.false c.if-tag-eq-REPEAT.false))

@@ -12,5 +12,5 @@ cap_spec =
     tie.close
     (tie.spec
     (λ c. search rules)
-    (λ c. rw (le-leb _ _ c.if1.true) refl)
-    (λ c. rw (lt-leb _ _ c.if1.false) refl))
+    (λ c. rw (le-leb _ _ c.if-n-le-WIDE_MAX_ENTRIES.true) refl)
+    (λ c. rw (lt-leb _ _ c.if-n-le-WIDE_MAX_ENTRIES.false) refl))

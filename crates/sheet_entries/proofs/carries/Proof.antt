@@ -10,5 +10,5 @@ carries_spec =
     tie.close
     (tie.spec
     (λ c κs. tt)
-    (λ c. rw (← c.before.is_program.ensures, c.if1.true) refl)
-    (λ c. rw (← c.before.is_program.ensures, c.if1.false) refl))
+    (λ c. rw (← c.before.is_program.ensures, c.if-is_program-few.true) refl)
+    (λ c. rw (← c.before.is_program.ensures, c.if-is_program-few.false) refl))

@@ -18,25 +18,25 @@ request_at_spec =
     (λ c κs. tt)
     (λ c κs. tt)
     (λ c κs. tt)
-    (λ c. let h : c.value-of2.result ≤ 7 = rw (c.value-of2.ensures, c.before.number_to.ensures) (number_to_small _ 7 _) in omega arith)
+    (λ c. let h : c.value_of-rights.result ≤ 7 = rw (c.value_of-rights.ensures, c.before.number_to.ensures) (number_to_small _ 7 _) in omega arith)
     (λ c.
     let t = c.before.before.before in
     rw (
-      c.value-of2.ensures,
+      c.value_of-rights.ensures,
       c.before.number_to.ensures,
-      t.before.next_of.ensures,
-      ← t.before.before.number.ensures,
+      t.before.next_of-next.ensures,
+      ← t.before.before.number-tag.ensures,
       ← t.value_of_lem.ensures,
-      eq-eqb _ _ c.before.before.if1.true,
+      eq-eqb _ _ c.before.before.if-sort-eq-RIGHTS.true,
     ) refl)
     (λ c κs. tt)
     (λ c.
     let e = c.before in
     let t = e.before.before in
     rw (
-      ← t.before.before.number.ensures,
+      ← t.before.before.number-tag.ensures,
       ← t.value_of_lem.ensures,
-      ne_eqb _ _ e.before.if1.false,
-      ← t.before.next_of.ensures,
-      ← e.stated_at.ensures,
+      ne_eqb _ _ e.before.if-sort-eq-RIGHTS.false,
+      ← t.before.next_of-next.ensures,
+      ← e.stated_at-stated.ensures,
     ) refl))

@@ -25,15 +25,15 @@ stated_at_spec =
     (λ c κs. tt)
     (λ c.
     let v = c.before.before.before.before.before in
-    let h : v.value_of_lem.result ≤ 255 = rw (v.value_of_lem.ensures, v.before.before.before.before.before.number_to.ensures) (number_to_small _ 255 _) in
+    let h : v.value_of_lem.result ≤ 255 = rw (v.value_of_lem.ensures, v.before.before.before.before.before.number_to-kind.ensures) (number_to_small _ 255 _) in
     omega arith)
     (λ c.
     let v = c.before.before.before.before in
-    let h : v.value-of2.result ≤ 255 = rw (v.value-of2.ensures, v.before.before.before.before.before.then_number.ensures) (then_small _ 255 _) in
+    let h : v.value_of-p.result ≤ 255 = rw (v.value_of-p.ensures, v.before.before.before.before.before.then_number-partition.ensures) (then_small _ 255 _) in
     omega arith)
     (λ c.
     let v = c.before.before.before in
-    let h : v.value-of3.result ≤ 255 = rw (v.value-of3.ensures, v.before.before.before.before.before.then-number2.ensures) (then_small _ 255 _) in
+    let h : v.value_of-i.result ≤ 255 = rw (v.value_of-i.ensures, v.before.before.before.before.before.then_number-info.ensures) (then_small _ 255 _) in
     omega arith)
     (λ c κs. tt)
     (λ c κs. tt)
@@ -42,17 +42,17 @@ stated_at_spec =
     let v = x.before.before.before.before.before in
     let n = v.before.before.before.before.before in
     rw (
-      c.then_numbers.ensures,
+      c.then_numbers-end.ensures,
       c.before.carries.ensures,
-      x.next_of.ensures,
-      x.before.value-of5.ensures,
-      x.before.before.value-of4.ensures,
-      x.before.before.before.value-of3.ensures,
-      x.before.before.before.before.value-of2.ensures,
+      x.next_of-words.ensures,
+      x.before.value_of-n.ensures,
+      x.before.before.value_of-a.ensures,
+      x.before.before.before.value_of-i.ensures,
+      x.before.before.before.before.value_of-p.ensures,
       v.value_of_lem.ensures,
-      v.before.then-number4.ensures,
-      v.before.before.then-number3.ensures,
-      v.before.before.before.then-number2.ensures,
-      v.before.before.before.before.then_number.ensures,
-      n.number_to.ensures,
+      v.before.then_number-count.ensures,
+      v.before.before.then_number-address.ensures,
+      v.before.before.before.then_number-info.ensures,
+      v.before.before.before.before.then_number-partition.ensures,
+      n.number_to-kind.ensures,
     ) refl))

@@ -10,26 +10,26 @@ pub judge_spec : {M : Type 1} → statement M
 judge_spec =
     tie.close
     (tie.spec
-    (λ c. verdict_long c.before.before.args.sheet.now c.if1.true)
+    (λ c. verdict_long c.before.before.args.sheet.now c.if-sheet-gt-MAX_BYTES.true)
     (λ c κs. tt)
     (λ c. search rules)
     (λ c κs. tt)
     (λ c.
     let b = c.before.before.before.before in
     let o = b.before.before in
-    verdict_good o.before.before.before.args.sheet.now o.before.if1.false _ _ (sym b.block.given.1 ∙ o.opening.ensures)
-    (leb-true _ _ (sym c.before.before.ends.ensures ∙ c.before.if2.true)) c.if3.true)
+    verdict_good o.before.before.before.args.sheet.now o.before.if-sheet-gt-MAX_BYTES.false _ _ (sym b.block-1.given.1 ∙ o.opening-block.ensures)
+    (leb-true _ _ (sym c.before.before.ends.ensures ∙ c.before.if-ends.true)) c.if-value-le-MAX_ENTRIES.true)
     (λ c.
     let b = c.before.before.before.before in
     let o = b.before.before in
-    verdict_large o.before.before.before.args.sheet.now o.before.if1.false _ _ (sym b.block.given.1 ∙ o.opening.ensures)
-    (leb-true _ _ (sym c.before.before.ends.ensures ∙ c.before.if2.true)) c.if3.false)
+    verdict_large o.before.before.before.args.sheet.now o.before.if-sheet-gt-MAX_BYTES.false _ _ (sym b.block-1.given.1 ∙ o.opening-block.ensures)
+    (leb-true _ _ (sym c.before.before.ends.ensures ∙ c.before.if-ends.true)) c.if-value-le-MAX_ENTRIES.false)
     (λ c. search rules)
     (λ c.
     let b = c.before.before.before in
     let o = b.before.before in
-    verdict_after o.before.before.before.args.sheet.now o.before.if1.false _ _ (sym b.block.given.1 ∙ o.opening.ensures)
-    (leb-false _ _ (sym c.before.ends.ensures ∙ c.if2.false)))
+    verdict_after o.before.before.before.args.sheet.now o.before.if-sheet-gt-MAX_BYTES.false _ _ (sym b.block-1.given.1 ∙ o.opening-block.ensures)
+    (leb-false _ _ (sym c.before.ends.ensures ∙ c.if-ends.false)))
     (λ c.
     let o = c.before.before.before in
-    verdict_bad o.before.before.before.args.sheet.now o.before.if1.false _ (sym c.before.block2.given.1 ∙ o.opening.ensures)))
+    verdict_bad o.before.before.before.args.sheet.now o.before.if-sheet-gt-MAX_BYTES.false _ (sym c.before.block-in-Bad-1.given.1 ∙ o.opening-block.ensures)))

@@ -11,11 +11,11 @@ use Rattle.sheet_run.proofs.Placed.{runs_at}
 use Rattle.sheet_run.proofs.run.Statement.{statement}
 use Rattle.sheet_run.proofs.run.Tie as tie
 
-abbrev invariant_loop : tie.invariant_loop
+abbrev invariant_loop : tie.invariant-loop-i
 invariant_loop s₀ image₀ sheet row₀ verdict count places n₀ i₀ s image row n i =
     (i ≤ count) × (count ≤ 4096) × (length image ≡ length image₀) × Running sheet s₀ (flash image₀) row₀ i s (flash image) row n
 
-abbrev decreases_loop : tie.decreases_loop
+abbrev decreases_loop : tie.decreases-loop-i
 decreases_loop s₀ image₀ sheet row₀ verdict count places n₀ i₀ s image row n i = count - i
 
 pub run_spec : {M : Type 1} → statement M
@@ -30,35 +30,35 @@ run_spec =
     (λ c.
     let j = c.before.before in
     let a = j.before.before.before.args in
-    rw c.enum_told.given.1 (run_bad a.sheet.now a.s.now (flash a.image.now) a.row.now _ (sym c.enum_told.given.1 ∙ j.judge.ensures)))
+    rw c.enum_told-1.given.1 (run_bad a.sheet.now a.s.now (flash a.image-1.now) a.row.now _ (sym c.enum_told-1.given.1 ∙ j.judge-verdict.ensures)))
     (λ c κs.
     let v = c.before.before in
-    good_room _ _ (sym v.verdict.given.1 ∙ v.before.before.judge.ensures))
+    good_room _ _ (sym v.verdict-1.given.1 ∙ v.before.before.judge-verdict.ensures))
     (λ c.
     let v = c.before.before.before in
-    (omega arith, runs_few _ _ (sym v.verdict.given.1 ∙ v.before.before.judge.ensures), refl, running_none))
+    (omega arith, runs_few _ _ (sym v.verdict-1.given.1 ∙ v.before.before.judge-verdict.ensures), refl, running_none))
     (λ c. search rules)
     (λ c. omega arith)
     (λ c. omega arith)
     (λ c κs. tt)
-    (λ c κs. let q = c.before.before.before.before.before.before.before.loop.invariant.3.few in omega arith)
+    (λ c κs. let q = c.before.before.before.before.before.before.before.loop-i.invariant.3.few in omega arith)
     (λ c. omega arith)
     (λ c. omega arith)
     (λ c.
     let p = c.before.before.before.before in
     let l = p.before.before.before.before in
     let v = l.before.before.before.before in
-    let e = sym v.verdict.given.1 ∙ v.before.before.judge.ensures in
-    let i = l.loop.i in
-    let h = p.before.before.before.loop-test.true in
+    let e = sym v.verdict-1.given.1 ∙ v.before.before.judge-verdict.ensures in
+    let i = l.loop-i.i in
+    let h = p.before.before.before.loop-i-test.true in
     let at = runs_at _ _ e l.before.expand.ensures i h in (
       omega arith,
-      l.loop.invariant.1,
-      c.before.before.before.image.given ∙ l.loop.invariant.2,
-      running_more (runs_there _ _ e i h) l.loop.invariant.3 p.perform.result (rw at at p.perform.ensures) c.write.ensures.0 c.write.ensures.1,
+      l.loop-i.invariant.1,
+      c.before.before.before.image-1.given ∙ l.loop-i.invariant.2,
+      running_more (runs_there _ _ e i h) l.loop-i.invariant.3 p.perform-line.result (rw at at p.perform-line.ensures) c.write-n.ensures.0 c.write-n.ensures.1,
     ))
-    (λ c. let q = c.before.loop.invariant.3.few in omega arith)
+    (λ c. let q = c.before.loop-i.invariant.3.few in omega arith)
     (λ c. search rules)
     (λ c.
     let v = c.before.before.before.before.before in
-    run_good _ _ (sym v.verdict.given.1 ∙ v.before.before.judge.ensures) (omega arith) c.before.loop.invariant.3))
+    run_good _ _ (sym v.verdict-1.given.1 ∙ v.before.before.judge-verdict.ensures) (omega arith) c.before.loop-i.invariant.3))

@@ -16,5 +16,5 @@ write_spec =
     (λ c. search rules)
     (λ c. search rules)
     (λ c. search rules)
-    (λ c. rw c.if1.true (rw add-one refl, refl))
-    (λ c. rw c.if1.false (refl, omega arith)))
+    (λ c. rw c.if-line.true (rw add-one refl, refl))
+    (λ c. rw c.if-line.false (refl, omega arith)))

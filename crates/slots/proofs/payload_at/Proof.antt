@@ -15,4 +15,4 @@ payload_at_spec =
     (λ c κs. search rules)
     (λ c. search rules)
     (λ c κs. search rules)
-    (λ c. subst (λ (l : List ℕ). HeldAs l (payload_of l) c.payload_in.result) c.before.before.payload_bytes.ensures c.payload_in.ensures))
+    (λ c. subst (λ (l : List ℕ). HeldAs l (payload_of l) c.payload_in.result) c.before.before.payload_bytes-bytes.ensures c.payload_in.ensures))

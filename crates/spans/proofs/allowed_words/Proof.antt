@@ -20,19 +20,19 @@ allowed_words_spec =
     (λ c.
     let w = c.before in
     let s = w.before.before.before.before in
-    none_before _ _ _ c.if1.true
-    ∙ allowed_by _ _ s.before.span_start.ensures s.span_words.ensures w.before.before.page_of.ensures.0 w.before.leading_pages.ensures.0
-    w.word_in_page.ensures.0)
+    none_before _ _ _ c.if-lead-skipped.true
+    ∙ allowed_by _ _ s.before.span_start-start.ensures s.span_words-words.ensures w.before.before.page_of-first.ensures.0 w.before.leading_pages-lead.ensures.0
+    w.word_in_page-skipped.ensures.0)
     (λ c. search rules)
     (λ c.
     let w = c.before.before in
     let s = w.before.before.before.before in
-    some_before _ _ _ c.if2.true
-    ∙ allowed_by _ _ s.before.span_start.ensures s.span_words.ensures w.before.before.page_of.ensures.0 w.before.leading_pages.ensures.0
-    w.word_in_page.ensures.0)
+    some_before _ _ _ c.if-before-words.true
+    ∙ allowed_by _ _ s.before.span_start-start.ensures s.span_words-words.ensures w.before.before.page_of-first.ensures.0 w.before.leading_pages-lead.ensures.0
+    w.word_in_page-skipped.ensures.0)
     (λ c.
     let w = c.before.before in
     let s = w.before.before.before.before in
-    all_before _ _ _ c.if2.false
-    ∙ allowed_by _ _ s.before.span_start.ensures s.span_words.ensures w.before.before.page_of.ensures.0 w.before.leading_pages.ensures.0
-    w.word_in_page.ensures.0))
+    all_before _ _ _ c.if-before-words.false
+    ∙ allowed_by _ _ s.before.span_start-start.ensures s.span_words-words.ensures w.before.before.page_of-first.ensures.0 w.before.leading_pages-lead.ensures.0
+    w.word_in_page-skipped.ensures.0))

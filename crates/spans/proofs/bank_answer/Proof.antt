@@ -11,13 +11,13 @@ bank_answer_spec =
     (λ c κs. tt)
     (λ c κs. tt)
     (λ c κs. tt)
-    (λ c κs. c.bank_of.ensures.1)
+    (λ c κs. c.bank_of-bank.ensures.1)
     (λ c κs. tt)
     (λ c. simp (
       c.check.ensures,
       c.before.bank_closed.ensures,
-      c.before.before.bank_of.ensures.0,
+      c.before.before.bank_of-bank.ensures.0,
       c.before.before.before.page_of.ensures.0,
-      c.before.before.before.before.pages.ensures,
+      c.before.before.before.before.pages-d.ensures,
       c.before.before.before.before.before.before.requires,
     )))

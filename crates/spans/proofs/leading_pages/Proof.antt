@@ -9,10 +9,10 @@ use Rattle.registers.specs.Registers.{stands_for}
 use Rattle.spans.proofs.leading_pages.Statement.{statement}
 use Rattle.spans.proofs.leading_pages.Tie as tie
 
-abbrev invariant_loop : tie.invariant_loop
+abbrev invariant_loop : tie.invariant-loop-i
 invariant_loop s o from count i₀ i = (i ≤ count) × Passed (page_grants (stands_for s).setup o) from.0 count i
 
-abbrev decreases_loop : tie.decreases_loop
+abbrev decreases_loop : tie.decreases-loop-i
 decreases_loop s o from count i₀ i = count - i
 
 pub leading_pages_spec : {M : Type 1} → statement M
@@ -23,8 +23,8 @@ leading_pages_spec =
     (λ c. (search rules, passed_none))
     (λ c. search rules)
     (λ c κs. tt)
-    (λ c. (passed_until (search rules) c.before.before.before.before.loop.invariant.1 (sym c.before.page_grants.ensures ∙ not-true _ c.if1.true), search rules))
+    (λ c. (passed_until (search rules) c.before.before.before.before.loop-i.invariant.1 (sym c.before.page_grants.ensures ∙ not-true _ c.if-not-page_grants.true), search rules))
     (λ c. search rules)
     (λ c. search rules)
-    (λ c. (search rules, passed_more (search rules) c.before.before.before.before.loop.invariant.1 (sym c.before.page_grants.ensures ∙ not-false _ c.if1.false)))
-    (λ c. (passed_all (search rules) c.before.loop.invariant.1, search rules)))
+    (λ c. (search rules, passed_more (search rules) c.before.before.before.before.loop-i.invariant.1 (sym c.before.page_grants.ensures ∙ not-false _ c.if-not-page_grants.false)))
+    (λ c. (passed_all (search rules) c.before.loop-i.invariant.1, search rules)))

@@ -20,8 +20,8 @@ page_answer_spec =
       c.check.ensures,
       c.before.grants.ensures,
       c.before.before.right_needed.ensures.0,
-      r.ruling_at.ensures,
-      r.before.page_of.ensures.0,
+      r.ruling_at-ruling.ensures,
+      r.before.page_of-page.ensures.0,
       r.before.before.span_start.ensures,
-      r.before.before.before.is_information.ensures,
+      r.before.before.before.is_information-information.ensures,
     ) (answer_one _ r.before.before.before.before.requires)))

@@ -18,9 +18,9 @@ step_spec =
     let r = c.before.before.before in
     let a = r.before.before.before.before in
     rw c.still.ensures
-    (step_early a.args.s.now (flash a.args.image.now) r.ready_with.result
-    r.ready_with.ensures
-    (sym c.before.before.accepts.ensures ∙ not-true _ c.before.if1.true)))
-    (λ c κs. rw c.before.before.before.before.ready_with.ensures at (sym c.before.before.before.accepts.ensures ∙ not-false _ c.before.before.if1.false))
+    (step_early a.args.s.now (flash a.args.image-1.now) r.ready_with-ready.result
+    r.ready_with-ready.ensures
+    (sym c.before.before.accepts.ensures ∙ not-true _ c.before.if-not-accepts.true)))
+    (λ c κs. rw c.before.before.before.before.ready_with-ready.ensures at (sym c.before.before.before.accepts.ensures ∙ not-false _ c.before.before.if-not-accepts.false))
     (λ c. search rules)
     (λ c. c.before.before.ready_step.ensures))

@@ -7,4 +7,4 @@ still_spec =
     tie.close (tie.spec
     (λ c κs. tt)
     (λ c κs. tt)
-    (λ c. rw (c.movement_number.ensures, c.before.number.ensures)))
+    (λ c. rw (c.movement_number-moved.ensures, c.before.number-number.ensures)))

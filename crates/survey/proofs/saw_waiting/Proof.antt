@@ -3,7 +3,7 @@ use Rattle.survey.proofs.saw_waiting.Statement.{statement}
 use Rattle.survey.proofs.saw_waiting.Tie as tie
 
 returns : tie.Need-returns
-returns c = rw (c.pick2.ensures, c.before.pick_place.ensures, c.before.before.before.before.pick.ensures)
+returns c = rw (c.pick-serial.ensures, c.before.pick_place-oldest.ensures, c.before.before.before.before.pick-highest.ensures)
 
 pub saw_waiting_spec : {M : Type 1} → statement M
 saw_waiting_spec =

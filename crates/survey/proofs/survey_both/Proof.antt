@@ -7,7 +7,7 @@ use Rattle.survey.proofs.survey_both.Tie as tie
 
 returns : tie.Need-returns
 unfolding places
-returns c = rw (two_pages, ← c.before.before.none.ensures, ← c.before.survey_page.ensures) c.survey-page2.ensures
+returns c = rw (two_pages, ← c.before.before.none.ensures, ← c.before.survey_page-high.ensures) c.survey_page.ensures
 
 pub survey_both_spec : {M : Type 1} → statement M
 survey_both_spec =

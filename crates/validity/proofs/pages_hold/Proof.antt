@@ -24,25 +24,25 @@ all_hold s =
     every_both (setting_encoded s) (λ k. page_fits (setting_at s k)) 26
     ∙ ap (λ (r : Bool). every (setting_encoded s) 26 && r) (tested_all_from page_fits (setting_at s) 0 26)
 
-abbrev invariant_loop : tie.invariant_loop
+abbrev invariant_loop : tie.invariant-loop-i
 invariant_loop s flags₀ rights₀ i₀ flags rights i = (i ≤ 26) × Tested (λ b. b) (listed (holds s) 0 26) i (leb flags 1 && leb rights 7)
 
-abbrev decreases_loop : tie.decreases_loop
+abbrev decreases_loop : tie.decreases-loop-i
 decreases_loop s flags₀ rights₀ i₀ flags rights i = 26 - i
 
-loop_again : tie.Need-loop-preserved invariant_loop decreases_loop
+loop_again : tie.Need-loop-i-preserved invariant_loop decreases_loop
 loop_again c =
-    let l = c.before.before.before.loop in
+    let l = c.before.before.before.loop-i in
     let s = c.before.before.before.before.args.s.now in
-    let f = c.before.page_flag.result in
-    let r = c.page_rights.result in
+    let f = c.before.page_flag-flag.result in
+    let r = c.page_rights-right.result in
     let one : (leb f 1 && leb r 7) ≡ holds s l.i =
-    rw (c.before.page_flag.ensures, c.page_rights.ensures) (sym (page_holds (get_or s (page_from l.i) 0) (get_or s (page_from l.i + 1) 0))) in
+    rw (c.before.page_flag-flag.ensures, c.page_rights-right.ensures) (sym (page_holds (get_or s (page_from l.i) 0) (get_or s (page_from l.i + 1) 0))) in
     let next = tested_more true (leb f 1 && leb r 7) (omega arith) l.invariant.1 (one ∙ sym (listed_at (holds s) 26 l.i true (omega arith))) in
     (omega arith, rw (both_together l.flags l.rights f r) next)
 
 returns : tie.Need-returns invariant_loop decreases_loop
-returns c = tested_all (omega arith) c.before.loop.invariant.1 ∙ all_hold c.before.before.args.s.now
+returns c = tested_all (omega arith) c.before.loop-i.invariant.1 ∙ all_hold c.before.before.args.s.now
 
 pub pages_hold_spec : {M : Type 1} → statement M
 pages_hold_spec =

@@ -12,4 +12,4 @@ physical_fits_spec =
     tie.close (tie.spec
     (λ c κs. omega arith)
     (λ c κs. omega arith)
-    (λ c. rw (c.lost2.ensures, c.before.lost.ensures, and-true)))
+    (λ c. rw (c.lost-second.ensures, c.before.lost-first.ensures, and-true)))

@@ -6,4 +6,4 @@ pub progress_fits_spec : {M : Type 1} → statement M
 progress_fits_spec =
     tie.close (tie.spec
     (λ c κs. tt)
-    (λ c. rw c.is_busy.ensures))
+    (λ c. rw c.is_busy-busy.ensures))

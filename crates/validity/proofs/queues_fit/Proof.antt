@@ -9,4 +9,4 @@ queues_fit_spec =
     tie.close (tie.spec
     (λ c κs. tt)
     (λ c κs. tt)
-    (λ c. rw (c.program_count.ensures, c.before.read_count.ensures)))
+    (λ c. rw (c.program_count-programs.ensures, c.before.read_count-reads.ensures)))

@@ -9,4 +9,4 @@ ready_spec =
     (λ c κs. tt)
     (λ c κs. tt)
     (λ c κs. tt)
-    (λ c. simp (c.ready_answer.ensures, c.before.phase.ensures, c.before.before.valid.ensures) (ready_same _ _ (λ e. e))))
+    (λ c. simp (c.ready_answer.ensures, c.before.phase.ensures, c.before.before.valid-own.ensures) (ready_same _ _ (λ e. e))))

@@ -10,4 +10,4 @@ ready_with_spec =
     (λ c κs. tt)
     (λ c κs. tt)
     (λ c κs. tt)
-    (λ c. simp (c.ready_answer.ensures, c.before.phase.ensures, c.before.before.valid_with.ensures) (ready_same _ _ (with_valid _ _))))
+    (λ c. simp (c.ready_answer.ensures, c.before.phase.ensures, c.before.before.valid_with-both.ensures) (ready_same _ _ (with_valid _ _))))

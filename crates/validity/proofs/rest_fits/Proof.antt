@@ -25,17 +25,17 @@ rest_fits_spec =
     let m = c.before.before.before.before.before.before in
     let r = m.before.before in
     rw (
-      c.running_fits.ensures,
-      c.before.progress_fits.ensures,
-      c.before.before.queues_fit.ensures,
-      c.before.before.before.errors_fit.ensures,
-      c.before.before.before.before.rights_fit.ensures,
+      c.running_fits-running.ensures,
+      c.before.progress_fits-held.ensures,
+      c.before.before.queues_fit-queued.ensures,
+      c.before.before.before.errors_fit-told.ensures,
+      c.before.before.before.before.rights_fit-other.ensures,
       c.before.before.before.before.before.default_rights.ensures,
-      m.pages_fit.ensures,
+      m.pages_fit-pages.ensures,
       m.before.pages.ensures,
-      r.is_ready.ensures,
-      r.before.errors.ensures,
-      r.before.before.progress.ensures,
-      r.before.before.before.phase.ensures,
-      r.before.before.before.before.physical_fits.ensures,
+      r.is_ready-ready.ensures,
+      r.before.errors-errors.ensures,
+      r.before.before.progress-progress.ensures,
+      r.before.before.before.phase-phase.ensures,
+      r.before.before.before.before.physical_fits-physical.ensures,
     )))

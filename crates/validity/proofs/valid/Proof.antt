@@ -13,14 +13,14 @@ valid_spec =
     (λ c κs. tt)
     (λ c κs. tt)
     (λ c. c.rest_fits.ensures ∙ valid_holds c.before.before.before.before.before.before.args.s.now (rw (
-      c.before.before.pages_hold.ensures,
-      c.before.before.before.regions_hold.ensures,
-      c.before.before.before.before.progress_encoded.ensures,
-      c.before.before.before.before.before.plain_encoded.ensures,
-    ) at c.before.if1.true))
+      c.before.before.pages_hold-pages.ensures,
+      c.before.before.before.regions_hold-regions.ensures,
+      c.before.before.before.before.progress_encoded-running.ensures,
+      c.before.before.before.before.before.plain_encoded-plain.ensures,
+    ) at c.before.if-plain-running.true))
     (λ c. valid_fails c.before.before.before.before.before.args.s.now (rw (
-      c.before.pages_hold.ensures,
-      c.before.before.regions_hold.ensures,
-      c.before.before.before.progress_encoded.ensures,
-      c.before.before.before.before.plain_encoded.ensures,
-    ) at c.if1.false)))
+      c.before.pages_hold-pages.ensures,
+      c.before.before.regions_hold-regions.ensures,
+      c.before.before.before.progress_encoded-running.ensures,
+      c.before.before.before.before.plain_encoded-plain.ensures,
+    ) at c.if-plain-running.false)))

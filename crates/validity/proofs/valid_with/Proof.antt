@@ -15,10 +15,10 @@ valid_with_spec =
     (λ c κs. tt)
     (λ c κs. tt)
     (λ c κs. tt)
-    (λ c. let t = c.before.before in let ok = sym t.before.valid.ensures ∙ t.if1.true in let d = ap (λ (k : Controller). k.setup.pages) (taken_stands t.before.before.before.args.s.now ok) in simp (
+    (λ c. let t = c.before.before in let ok = sym t.before.valid.ensures ∙ t.if-valid.true in let d = ap (λ (k : Controller). k.setup.pages) (taken_stands t.before.before.before.args.s.now ok) in simp (
       c.image_words.ensures,
       c.before.pages.ensures,
       ok,
       d,
     ))
-    (λ c. simp (sym c.before.valid.ensures ∙ c.if1.false)))
+    (λ c. simp (sym c.before.valid.ensures ∙ c.if-valid.false)))

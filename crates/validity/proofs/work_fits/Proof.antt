@@ -28,21 +28,21 @@ arranged true false a e n = and-false (a && e)
 read_asked : (s : Setup) (q : Queue) (o : Operation) (moved readable : ℕ)
     → work_fits s q (Read o moved readable)
     ≡ ((is_read o && ((accepts (operation_answer s o) || is_denied (operation_answer s o)) && eqb readable (readable_words s o)))
-    && (ltb moved (total_words s.pages o) && is_empty q))
+    && (ltb moved (total_words s.pages-d o) && is_empty q))
 unfolding work_fits
 read_asked s q o moved readable =
-    sym (arranged (is_read o) (ltb moved (total_words s.pages o)) (accepts (operation_answer s o) || is_denied (operation_answer s o)) (eqb readable (readable_words s o)) (is_empty q))
+    sym (arranged (is_read o) (ltb moved (total_words s.pages-d o)) (accepts (operation_answer s o) || is_denied (operation_answer s o)) (eqb readable (readable_words s o)) (is_empty q))
 
-returns : tie.Need-returns
+returns : tie.Need-returns-in-Read
 unfolding stands_for
 returns c =
     let m = c.before.before.before in
     rw (
-      c.read_fits.ensures,
+      c.read_fits-fits.ensures,
       c.before.total_words.ensures,
-      m.w.given.1,
-      m.before.before.program_count.ensures,
-      m.before.before.before.pages.ensures,
+      m.w-1.given.1,
+      m.before.before.program_count-queued.ensures,
+      m.before.before.before.pages-d.ensures,
       read_asked,
     )
 
@@ -54,22 +54,22 @@ regrouped true false a p = and-false a
 
 program_asked : (s : Setup) (q : Queue) (o : Operation) (moved : ℕ)
     → work_fits s q (Program o moved)
-    ≡ ((is_program o && accepts (operation_answer s o)) && (ltb moved (total_words s.pages o) && leb (moved + q.len) o.count))
+    ≡ ((is_program o && accepts (operation_answer s o)) && (ltb moved (total_words s.pages-d o) && leb (moved + q.len) o.count))
 unfolding work_fits
 program_asked s q o moved =
-    sym (regrouped (is_program o) (ltb moved (total_words s.pages o)) (accepts (operation_answer s o)) (leb (moved + q.len) o.count))
+    sym (regrouped (is_program o) (ltb moved (total_words s.pages-d o)) (accepts (operation_answer s o)) (leb (moved + q.len) o.count))
 
-returns_2 : tie.Need-returns-2
+returns_2 : tie.Need-returns-in-Program
 unfolding stands_for
 returns_2 c =
     let m = c.before.before.before.before in
     rw (
-      c.pushed_fits.ensures,
-      c.before.program_fits.ensures,
-      c.before.before.total-words2.ensures,
-      m.w2.given.1,
-      m.before.before.program_count.ensures,
-      m.before.before.before.pages.ensures,
+      c.pushed_fits-pushed.ensures,
+      c.before.program_fits-fits.ensures,
+      c.before.before.total_words-in-Program.ensures,
+      m.w-in-Program-1.given.1,
+      m.before.before.program_count-queued.ensures,
+      m.before.before.before.pages-d.ensures,
       program_asked,
     )
 
@@ -98,12 +98,12 @@ work_fits_spec =
     returns
     returns_2
     (λ c. let m = c.before.before.before.before.before.before in rw (
-      c.accepts.ensures,
+      c.accepts-accepted.ensures,
       c.before.operation_answer.ensures,
-      c.before.before.total-words3.ensures,
-      c.before.before.before.is_bank_erase.ensures,
-      c.before.before.before.before.is_page_erase.ensures,
-      m.w3.given.1,
-      m.before.before.program_count.ensures,
-      m.before.before.before.pages.ensures,
+      c.before.before.total_words-in-Erase.ensures,
+      c.before.before.before.is_bank_erase-bank.ensures,
+      c.before.before.before.before.is_page_erase-page.ensures,
+      m.w-in-Erase-1.given.1,
+      m.before.before.program_count-queued.ensures,
+      m.before.before.before.pages-d.ensures,
     )))

@@ -19,9 +19,9 @@ use Rattle.whole.proofs.answered.Tie as tie
 
 -- In the branch of an accepted operation.
 accepted : (c : tie.Then1) → let s = c.before.before.before.before in accepts (operation_answer (setup_of s.args.s.now) s.args.o) ≡ true
-accepted c = sym (ap accepts c.before.before.before.before.requires.1) ∙ sym c.before.accepts.ensures ∙ c.if1.true
+accepted c = sym (ap accepts c.before.before.before.before.requires.1) ∙ sym c.before.accepts.ensures ∙ c.if-accepts.true
 
-returns : tie.Need-returns
+returns : tie.Need-returns-then-accepts
 returns c =
     let t = c.before.before.before.before.before.before.before.before in
     let s = t.before.before.before.before in
@@ -29,9 +29,9 @@ returns c =
 
 -- In that of a denied read.
 denied : (c : tie.Then2) → let s = c.before.before.before.before.before.before.before.before in is_denied_read s.args.o (number_of s.args.answer) ≡ true
-denied c = sym c.before.is_denied_read.ensures ∙ c.if2.true
+denied c = sym c.before.is_denied_read.ensures ∙ c.if-is_denied_read.true
 
-recorded_requires : tie.Need-recorded-requires
+recorded_requires : tie.Need-recorded-errors-requires
 unfolding stands_for
 recorded_requires c κs =
     let s = c.before.before.before.before.before in
@@ -45,39 +45,39 @@ read_requires c κs =
     let h = s.requires.0 in
     let at = stands_for s.args.s.now in
     let goes : starts s.args.o (operation_answer (setup_of s.args.s.now) s.args.o) ≡ true = rw (rw s.requires.1 at (denied t), or-true) in
-    (placed at _ s.args.o h.free goes, read_room at _ s.args.o h.free s.args.buffer.now h.room goes (and_left (is_read s.args.o) _ (denied t)))
+    (placed at _ s.args.o h.free goes, read_room at _ s.args.o h.free s.args.buffer-1.now h.room goes (and_left (is_read s.args.o) _ (denied t)))
 
-returns_2 : tie.Need-returns-2
+returns_2 : tie.Need-returns-then-is_denied_read
 unfolding stands_for
 returns_2 c =
     let m = c.before.before.before.before.before in
     let t = m.before.before.before.before.before.before in
     let l = t.before.before.before.before in
     let s = l.before.before.before.before in
-    let no : accepts s.args.answer ≡ false = sym l.before.accepts.ensures ∙ l.if1.false in
-    let shown = rw (denied t) at m.before.before.before.before.readable.ensures in
+    let no : accepts s.args.answer ≡ false = sym l.before.accepts.ensures ∙ l.if-accepts.false in
+    let shown = rw (denied t) at m.before.before.before.before.readable-readable.ensures in
     rw (
       c.told.ensures,
       c.before.put_errors.ensures,
-      m.read.ensures.0,
-      m.read.ensures.1,
-      t.before.before.recorded.ensures,
+      m.read.ensures.s_after,
+      m.read.ensures.buffer_after,
+      t.before.before.recorded-errors.ensures,
       no,
       denied t,
       and_left (is_read s.args.o) _ (denied t),
       ← shown,
     )
-    (left_denied _ (flash s.args.image.now) s.args.o s.args.buffer.now s.requires.0.encodes s.args.answer s.requires.1 no _ _)
+    (left_denied _ (flash s.args.image-1.now) s.args.o s.args.buffer-1.now s.requires.0.encodes s.args.answer s.requires.1 no _ _)
 
-returns_3 : tie.Need-returns-3
+returns_3 : tie.Need-returns
 returns_3 c =
     let t = c.before.before.before in
     let l = t.before.before.before.before in
     let s = l.before.before.before.before in
-    let no : accepts s.args.answer ≡ false = sym l.before.accepts.ensures ∙ l.if1.false in
-    let other : is_denied_read s.args.o (number_of s.args.answer) ≡ false = sym t.before.is_denied_read.ensures ∙ t.if2.false in
-    rw (c.told2.ensures, c.before.put-errors2.ensures, t.before.before.recorded.ensures, no, other)
-    (left_recorded _ (flash s.args.image.now) s.args.o s.args.buffer.now s.requires.0.encodes s.args.answer s.requires.1 no)
+    let no : accepts s.args.answer ≡ false = sym l.before.accepts.ensures ∙ l.if-accepts.false in
+    let other : is_denied_read s.args.o (number_of s.args.answer) ≡ false = sym t.before.is_denied_read.ensures ∙ t.if-is_denied_read.false in
+    rw (c.told-2.ensures, c.before.put_errors-2.ensures, t.before.before.recorded-errors.ensures, no, other)
+    (left_recorded _ (flash s.args.image-1.now) s.args.o s.args.buffer-1.now s.requires.0.encodes s.args.answer s.requires.1 no)
 
 pub answered_spec : {M : Type 1} → statement M
 unfolding stands_for

@@ -14,72 +14,72 @@ unfolding stands_for
 read_requires c κs =
     let s = c.before.before.before.before.before.before.before in
     let h = s.requires.0 in
-    let r = sym c.before.before.before.before.is_read.ensures ∙ c.before.before.before.if1.true in
+    let r = sym c.before.before.before.before.is_read.ensures ∙ c.before.before.before.if-is_read.true in
     let at = stands_for s.args.s.now in
-    (placed at _ s.args.o h.free (rw s.requires.1), read_room at _ s.args.o h.free s.args.buffer.now h.room (rw s.requires.1) r)
+    (placed at _ s.args.o h.free (rw s.requires.1), read_room at _ s.args.o h.free s.args.buffer-1.now h.room (rw s.requires.1) r)
 
-returns : tie.Need-returns
+returns : tie.Need-returns-then-is_read
 unfolding stands_for
 returns c =
     let m = c.before.before.before in
     let t = m.before.before.before.before in
     let s = t.before.before.before.before in
-    let r = sym t.before.is_read.ensures ∙ t.if1.true in
+    let r = sym t.before.is_read.ensures ∙ t.if-is_read.true in
     rw (
       c.told.ensures,
-      m.read.ensures.0,
-      m.read.ensures.1,
+      m.read.ensures.s_after,
+      m.read.ensures.buffer_after,
       r,
       ← accepted_readable _ s.args.o r s.requires.1,
     )
-    (left_read _ (flash s.args.image.now) s.args.o s.args.buffer.now s.requires.0.encodes _ _)
+    (left_read _ (flash s.args.image-1.now) s.args.o s.args.buffer-1.now s.requires.0.encodes _ _)
 
-program_requires : tie.Need-program-requires
+program_requires : tie.Need-program-bits-requires
 unfolding stands_for
 program_requires c κs =
     let s = c.before.before.before.before.before.before.before.before.before in
     let h = s.requires.0 in
-    let r = sym c.before.before.before.before.is_program.ensures ∙ c.before.before.before.if2.true in
+    let r = sym c.before.before.before.before.is_program.ensures ∙ c.before.before.before.if-is_program.true in
     let at = stands_for s.args.s.now in
-    (placed at _ s.args.o h.free (rw s.requires.1), program_room at _ s.args.o h.free s.args.buffer.now h.room (rw s.requires.1) r)
+    (placed at _ s.args.o h.free (rw s.requires.1), program_room at _ s.args.o h.free s.args.buffer-1.now h.room (rw s.requires.1) r)
 
-returns_2 : tie.Need-returns-2
+returns_2 : tie.Need-returns-then-is_program
 returns_2 c =
     let m = c.before.before.before.before.before.before in
     let t = m.before.before.before.before in
     let u = t.before.before in
     let s = u.before.before.before.before in
     rw (
-      c.told2.ensures,
+      c.told-then-is_program.ensures,
       c.before.put_programs.ensures,
       c.before.before.empty.ensures,
-      m.program.ensures.0,
-      m.program.ensures.1,
-      sym t.before.is_program.ensures ∙ t.if2.true,
-      sym u.before.is_read.ensures ∙ u.if1.false,
+      m.program-bits.ensures.value,
+      m.program-bits.ensures.image_after,
+      sym t.before.is_program.ensures ∙ t.if-is_program.true,
+      sym u.before.is_read.ensures ∙ u.if-is_read.false,
     )
-    (left_program _ (flash s.args.image.now) s.args.o s.args.buffer.now s.requires.0.encodes _)
+    (left_program _ (flash s.args.image-1.now) s.args.o s.args.buffer-1.now s.requires.0.encodes _)
 
-erase_requires : tie.Need-erase-requires
+erase_requires : tie.Need-erase-bits-requires
 unfolding stands_for
 erase_requires c κs =
     let s = c.before.before.before.before.before.before.before.before in
     placed (stands_for s.args.s.now) _ s.args.o s.requires.0.free (rw s.requires.1)
 
-returns_3 : tie.Need-returns-3
+returns_3 : tie.Need-returns
 returns_3 c =
     let m = c.before.before.before in
     let t = m.before.before.before in
     let u = t.before.before in
     let s = u.before.before.before.before in
     rw (
-      c.told3.ensures,
-      m.erase.ensures.0,
-      m.erase.ensures.1,
-      sym t.before.is_program.ensures ∙ t.if2.false,
-      sym u.before.is_read.ensures ∙ u.if1.false,
+      c.told-2.ensures,
+      m.erase-bits.ensures.value,
+      m.erase-bits.ensures.image_after,
+      sym t.before.is_program.ensures ∙ t.if-is_program.false,
+      sym u.before.is_read.ensures ∙ u.if-is_read.false,
     )
-    (left_erase _ (flash s.args.image.now) s.args.o s.args.buffer.now s.requires.0.encodes _)
+    (left_erase _ (flash s.args.image-1.now) s.args.o s.args.buffer-1.now s.requires.0.encodes _)
 
 pub started_spec : {M : Type 1} → statement M
 started_spec =

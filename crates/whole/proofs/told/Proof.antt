@@ -6,4 +6,4 @@ pub told_spec : {M : Type 1} → statement M
 told_spec =
     tie.close (tie.spec
     (λ c κs. tt)
-    (λ c. rw c.told.ensures))
+    (λ c. rw c.told-told.ensures))

@@ -10,7 +10,7 @@ whole_answer_spec =
     tie.close (tie.spec
     (λ c κs. tt)
     (λ c κs. tt)
-    (λ c. unready _ _ _ c.before.before.ready_with.ensures (sym c.before.accepts.ensures ∙ not-true _ c.if1.true))
+    (λ c. unready _ _ _ c.before.before.ready_with-ready.ensures (sym c.before.accepts.ensures ∙ not-true _ c.if-not-accepts.true))
     (λ c κs. tt)
     (λ c κs. tt)
     (λ c κs. tt)
@@ -18,8 +18,8 @@ whole_answer_spec =
     (λ c κs. tt)
     (λ c. let t = c.before.before.before.before.before in rw (
       c.check.ensures,
-      c.before.program_count.ensures,
-      c.before.before.read_count.ensures,
-      c.before.before.before.is_busy.ensures,
-      c.before.before.before.before.progress.ensures,
-    ) (ready _ _ _ t.before.before.ready_with.ensures (sym t.before.accepts.ensures ∙ not-false _ t.if1.false))))
+      c.before.program_count-programs.ensures,
+      c.before.before.read_count-reads.ensures,
+      c.before.before.before.is_busy-busy.ensures,
+      c.before.before.before.before.progress-progress.ensures,
+    ) (ready _ _ _ t.before.before.ready_with-ready.ensures (sym t.before.accepts.ensures ∙ not-false _ t.if-not-accepts.false))))

@@ -22,7 +22,7 @@ wipe_spec =
     (λ c κs. search rules)
     (λ c. search rules)
     (λ c. let b = c.before.before in let d = b.before.before.before.before in let e = d.before.before.before.before in let s = e.before.before.before in rw (
-      b.erase-range3.ensures,
-      d.erase-range2.ensures,
+      b.erase_range-3.ensures,
+      d.erase_range-2.ensures,
       e.erase_range.ensures,
-    ) (wiped_ranges s.args.d s.args.image.now s.requires)))
+    ) (wiped_ranges s.args.d s.args.image-1.now s.requires)))

@@ -13,5 +13,5 @@ unfolding read_word
 read_word_spec =
     tie.close (tie.spec
     (λ c κs. search rules)
-    (λ c. let true_word : ltb c.before.before.before.args.k c.before.before.before.args.readable ≡ true = lt-ltb _ _ c.before.if1.true in rw (true_word, c.delivered.ensures))
-    (λ c. let past : ltb c.before.before.args.k c.before.before.args.readable ≡ false = le-ltb _ _ c.if1.false in rw past))
+    (λ c. let true_word : ltb c.before.before.before.args.k c.before.before.before.args.readable ≡ true = lt-ltb _ _ c.before.if-k-readable.true in rw (true_word, c.delivered.ensures))
+    (λ c. let past : ltb c.before.before.args.k c.before.before.args.readable ≡ false = le-ltb _ _ c.if-k-readable.false in rw past))

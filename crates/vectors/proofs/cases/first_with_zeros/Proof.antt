@@ -3,10 +3,10 @@ use Rattle.std.proofs.Common.{◌≡◌, ◌-◌, ◌≤◌, length, rules}
 use Rattle.vectors.proofs.cases.first_with_zeros.Statement.{statement}
 use Rattle.vectors.proofs.cases.first_with_zeros.Tie as tie
 
-abbrev invariant_loop : tie.invariant_loop
+abbrev invariant_loop : tie.invariant-loop-i
 invariant_loop image i₀ i_end i = (i ≤ i_end) × (i_end ≡ length image)
 
-abbrev decreases_loop : tie.decreases_loop
+abbrev decreases_loop : tie.decreases-loop-i
 decreases_loop image i₀ i_end i = i_end - i
 
 pub first_with_zeros_spec : {M : Type 1} → statement M

@@ -3,11 +3,11 @@ use Rattle.std.proofs.Common.{◌≡◌, ◌-◌, ◌≤◌, length, arith, leng
 use Rattle.vectors.proofs.denied_reads.pop_all.Statement.{statement}
 use Rattle.vectors.proofs.denied_reads.pop_all.Tie as tie
 
-abbrev invariant_loop : tie.invariant_loop
+abbrev invariant_loop : tie.invariant-loop-i
 invariant_loop s₀ image₀ buffer₀ i₀ i_end s image buffer i =
     (i ≤ i_end) × (i_end ≡ length buffer₀) × (length image ≡ length image₀) × (length buffer ≡ length buffer₀)
 
-abbrev decreases_loop : tie.decreases_loop
+abbrev decreases_loop : tie.decreases-loop-i
 decreases_loop s₀ image₀ buffer₀ i₀ i_end s image buffer i = i_end - i
 
 pub pop_all_spec : {M : Type 1} → statement M

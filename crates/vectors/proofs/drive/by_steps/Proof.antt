@@ -3,10 +3,10 @@ use Rattle.std.proofs.Common.{◌≡◌, ◌-◌, ◌≤◌, length, rules}
 use Rattle.vectors.proofs.drive.by_steps.Statement.{statement}
 use Rattle.vectors.proofs.drive.by_steps.Tie as tie
 
-abbrev invariant_loop : tie.invariant_loop
+abbrev invariant_loop : tie.invariant-loop-i
 invariant_loop s₀ image₀ word r₀ i₀ s image r i = (i ≤ 8000) × (length image ≡ length image₀)
 
-abbrev decreases_loop : tie.decreases_loop
+abbrev decreases_loop : tie.decreases-loop-i
 decreases_loop s₀ image₀ word r₀ i₀ s image r i = 8000 - i
 
 pub by_steps_spec : {M : Type 1} → statement M

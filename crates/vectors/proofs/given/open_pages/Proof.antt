@@ -3,10 +3,10 @@ use Rattle.std.proofs.Common.{◌-◌, ◌≤◌, rules}
 use Rattle.vectors.proofs.given.open_pages.Statement.{statement}
 use Rattle.vectors.proofs.given.open_pages.Tie as tie
 
-abbrev invariant_loop : tie.invariant_loop
+abbrev invariant_loop : tie.invariant-loop-p
 invariant_loop s₀ bank t page p₀ p_end s p = p ≤ p_end
 
-abbrev decreases_loop : tie.decreases_loop
+abbrev decreases_loop : tie.decreases-loop-p
 decreases_loop s₀ bank t page p₀ p_end s p = p_end - p
 
 pub open_pages_spec : {M : Type 1} → statement M

@@ -3,10 +3,10 @@ use Rattle.std.proofs.Common.{◌-◌, ◌≤◌, rules}
 use Rattle.vectors.proofs.rights.allowed_pages.Statement.{statement}
 use Rattle.vectors.proofs.rights.allowed_pages.Tie as tie
 
-abbrev invariant_loop : tie.invariant_loop
+abbrev invariant_loop : tie.invariant-loop-p
 invariant_loop s n₀ p₀ n p = p ≤ 32
 
-abbrev decreases_loop : tie.decreases_loop
+abbrev decreases_loop : tie.decreases-loop-p
 decreases_loop s n₀ p₀ n p = 32 - p
 
 pub allowed_pages_spec : {M : Type 1} → statement M
