@@ -1,5 +1,6 @@
 // Answers and records: checks 5, 7, 8 and 9 of an operation, and what they record, on the state where it lies.
 #![tactic(auto)]
+
 ghost use Rattle.std.specs.Prelude.{◌≡◌, cond, ◌&&◌, ◌||◌, eqb};
 ghost use Rattle.model.specs.Rights.{readable_words};
 ghost use Rattle.model.specs.Kinds.{is_read, is_program};

@@ -1,5 +1,6 @@
 // The parts of a state, each within its bounds.
 #![tactic(auto)]
+
 ghost use Rattle.std.specs.Prelude.{◌≡◌};
 ghost use Rattle.model.specs.Settings.{info_exists};
 ghost use Rattle.model.specs.Valid.{rights_fit, region_fits, page_fits, errors_fit};

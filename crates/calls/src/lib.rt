@@ -1,6 +1,7 @@
 // What C and Rust hand in and what the calls hand back: small structs of numbers. specs/Calls.antt says what each call tells
 // and leaves.
 #![tactic(auto)]
+
 ghost use Rattle.std.specs.Prelude.{◌≡◌};
 ghost use Rattle.model.specs.Refusals.{number_of, reported};
 ghost use Rattle.registers.specs.Registers.{is_on};

@@ -1,5 +1,6 @@
 // Checks 5, 7, 8 and 9 of an operation.
 #![tactic(auto)]
+
 ghost use Rattle.std.specs.Prelude.{◌≡◌, false};
 ghost use Rattle.model.specs.Kinds.{no_partition};
 ghost use Rattle.model.specs.Checks.{unaligned, bad_count, malformed, past_data, span_limit, out_of_range, crosses_window};

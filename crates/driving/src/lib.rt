@@ -1,6 +1,7 @@
 // A whole operation by its public calls, for at most so many steps: where they do not reach, the power is cut and the operation
 // stays in progress. specs/Drives.antt says what is left.
 #![tactic(auto)]
+
 ghost use Rattle.std.specs.Prelude.{◌≡◌, ◌+◌, ◌≤◌, ◌<◌, min, length};
 ghost use Rattle.model.specs.State.{flash};
 ghost use Rattle.model.specs.Refusals.{number_of, reported};

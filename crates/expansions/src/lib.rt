@@ -1,5 +1,6 @@
 // The expansion of a bench sheet: where the tags of the entries stand that it runs, in order, each repeat as often as it says.
 #![tactic(auto)]
+
 ghost use Rattle.std.specs.Prelude.{◌≡◌, cond, eqb};
 ghost use Rattle.std.proofs.lemmas.List.Edits.{sets};
 ghost use Rattle.numbers.specs.Number.{number_to};

@@ -1,5 +1,6 @@
 // Pages, bus words and byte addresses: the conversions between the three, for every D.
 #![tactic(auto)]
+
 ghost use Rattle.std.specs.Prelude.{◌≡◌, ◌+◌, ◌<◌, ◌≤◌};
 ghost use Rattle.model.specs.Geometry.{pages_fit, image_words, info_count, info_first, info_index, data_image_page, info_image_page, first_word, page_of, page_start, bank_of, page_in_bank, bank_of_word, word_in_page, image_page, word_at, special_page};
 

@@ -1,5 +1,6 @@
 // Host read and page view on registers: reads past the queues, allowed during an operation and never recorded.
 #![tactic(auto)]
+
 ghost use Rattle.std.specs.Prelude.{◌≡◌, false, ◌+◌, ◌*◌, ◌<◌, ◌≤◌, get_or};
 ghost use Rattle.model.specs.State.{flash};
 ghost use Rattle.model.specs.Geometry.{page_of, image_page, first_word};

@@ -1,5 +1,6 @@
 // The life-cycle inputs and clearing the error record, on registers, and the checks that inputs and settings share.
 #![tactic(auto)]
+
 ghost use Rattle.std.specs.Prelude.{◌≡◌};
 ghost use Rattle.model.specs.Settings.{setting_answer};
 ghost use Rattle.registers.specs.Registers.{decode};

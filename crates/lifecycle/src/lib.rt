@@ -1,5 +1,6 @@
 // The life cycle on registers: reset, initialise with the seeds, and RMA.
 #![tactic(auto)]
+
 ghost use Rattle.std.specs.Prelude.{◌≡◌, ◌+◌, ◌≤◌, length, take, drop, replicate};
 ghost use Rattle.model.specs.State.{flash};
 ghost use Rattle.model.specs.Geometry.{image_words, creator_page, owner_page};

@@ -1,5 +1,6 @@
 // The rulings of one page, on the state where it lies: who decides a page, and with which rights.
 #![tactic(auto)]
+
 ghost use Rattle.std.specs.Prelude.{◌≡◌, ◌%◌, get_or};
 ghost use Rattle.model.specs.Rights.{data_ruling, info_ruling, ruling_at, page_grants};
 ghost use Rattle.model.specs.State.{page_off};

@@ -1,5 +1,6 @@
 // Numbers in bytes, as bench sheets have them: a value or the place of a fault. specs/Number.antt says what stands where.
 #![tactic(auto)]
+
 ghost use Rattle.std.specs.Prelude.{◌≡◌, ◌+◌, ◌≤◌, ◌<◌, length};
 ghost use Rattle.numbers.specs.Number.{last_group, groups_value, number_at, number_to, then_number, then_numbers, value_of, next_of};
 

@@ -1,5 +1,6 @@
 // Start on registers: an operation begins.
 #![tactic(auto)]
+
 ghost use Rattle.std.specs.Prelude.{◌≡◌, true, cond};
 ghost use Rattle.model.specs.Kinds.{is_read};
 ghost use Rattle.model.specs.Rights.{readable_words};

@@ -1,5 +1,6 @@
 // What a write puts into words 2 to 15 of a slot. scan_queue/specs/Payload.antt says it (`written`).
 #![tactic(auto)]
+
 ghost use Rattle.std.specs.Prelude.{◌≡◌, ◌+◌, ◌≤◌, ◌<◌, length, get_or};
 ghost use Rattle.scan_queue.specs.Payload.{words_of, written};
 ghost use Rattle.payloads.specs.Fill.{GroupsOf, laid};

@@ -1,5 +1,6 @@
 // Kinds and partitions of operations, and where the words of an operation lie in the image.
 #![tactic(auto)]
+
 ghost use Rattle.std.specs.Prelude.{◌≡◌, false, ◌<◌, ◌≤◌};
 ghost use Rattle.model.specs.Kinds.{is_read, is_program, is_page_erase, is_bank_erase, is_information, uses_count, right_needed};
 ghost use Rattle.model.specs.Places.{span_start, span_words, span_address, total_words, place_of};

@@ -83,7 +83,7 @@ cut_from f d o k zero n = rw (add-zero, zero-add) (past_ones f d o k k n (omega 
 cut_from f d o k (suc r) n =
     let all : suc r + n ≡ suc (r + n) = omega arith in
     let next : k + suc r ≡ k + 1 + r = omega arith in
-    rw (all, next, lt-ltb k (k + 1 + r) (omega arith)) (ap (λ (ws : List ℕ). delivered f (place_of d o k) ∷ ws) (cut_from f d o (k + 1) r n))
+    rw (next, all, lt-ltb k (k + 1 + r) (omega arith)) (ap (λ (ws : List ℕ). delivered f (place_of d o k) ∷ ws) (cut_from f d o (k + 1) r n))
 
 -- The first r of n words have the first r of their places.
 take_places : (d : ℕ) (o : Operation) (k r n : ℕ) → r ≤ n → take r (places_from d o k n) ≡ places_from d o k r

@@ -1,5 +1,6 @@
 // A queue of 16 bus words, oldest first. Push and pop leave zeros in the places past its length.
 #![tactic(auto)]
+
 ghost use Rattle.std.specs.Prelude.{◌≡◌, ◌+◌, ◌-◌, ◌<◌, ◌≤◌, ◌++◌, take, drop, replicate};
 ghost use Rattle.model.specs.Queue.{empty_queue, is_full, pushed, oldest, popped};
 

@@ -1,5 +1,6 @@
 // Push and pop: an operation's words go in and out through the queues, on registers.
 #![tactic(auto)]
+
 ghost use Rattle.std.specs.Prelude.{◌≡◌, ◌+◌, leb};
 ghost use Rattle.calls.specs.Calls.{push_in, pop_in};
 

@@ -1,5 +1,6 @@
 // Answers by number and what they report, chains of checks (the first that applies answers), and the error record.
 #![tactic(auto)]
+
 ghost use Rattle.std.specs.Prelude.{◌≡◌};
 ghost use Rattle.model.specs.Errors.{is_recorded, recorded};
 ghost use Rattle.model.specs.Refusals.{number_of, decider_number, reported, accepts, is_denied, check, or_else, phase_answer, ready_answer};

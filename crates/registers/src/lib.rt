@@ -1,6 +1,7 @@
 // The registers: the state as numbers that the caller lends, changed where they lie. Each part is read as the model's own
 // type, and no other crate knows where it lies.
 #![tactic(auto)]
+
 ghost use Rattle.std.specs.Prelude.{◌≡◌, ◌+◌, ◌<◌, ◌≤◌, ◌%◌, get_or, set};
 ghost use Rattle.registers.specs.Layout.{pages_at, phase_at, default_at, region_from, page_from, permission_at, moved_at, reads_from, programs_from, lost_from};
 ghost use Rattle.registers.specs.Registers.{phase_of, inputs_at, region_at, setting_at, operation_at, work_at, progress_at, queue_at, errors_at, is_on, progress_encoded, plain_encoded, mask_of, flag_of, phase_number, put_inputs, put_region, put_setting, put_erase, put_queue, put_running, put_errors, no_progress, cleared};

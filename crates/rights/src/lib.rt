@@ -1,5 +1,6 @@
 // What decides the rights of a page: a region that is on and holds it, its own setting, the seed lock.
 #![tactic(auto)]
+
 ghost use Rattle.std.specs.Prelude.{◌≡◌, ◌<◌};
 ghost use Rattle.model.specs.Rights.{grants, decides, seed_closed, page_rights};
 

@@ -1,5 +1,6 @@
 // Rounds on registers: host and step where both want a bank.
 #![tactic(auto)]
+
 ghost use Rattle.std.specs.Prelude.{◌≡◌, true, ◌+◌, ◌≤◌, ltb, get_or};
 ghost use Rattle.model.specs.State.{flash};
 ghost use Rattle.model.specs.Valid.{lost_limit};

@@ -1,5 +1,6 @@
 // What the next write and the next take do. Only words are looked at: no call of the controller is made.
 #![tactic(auto)]
+
 ghost use Rattle.std.specs.Prelude.{◌≡◌, ◌+◌, ◌≤◌, ◌<◌, length, take, drop};
 ghost use Rattle.scan_queue.specs.Slots.{Pages, places, queue};
 ghost use Rattle.scan_plans.specs.Plans.{Decided, OldestIs, padded};

@@ -8,7 +8,6 @@ use Rattle.numbers.specs.Number.{continued, last_group, groups_value, shortest, 
 use Rattle.scan_queue.specs.Payload.{Scan, max_serial, groups, bytes_of, words_of, all, serial_in, length_in, body_of, payload_of, written}
 use Rattle.scan_queue.specs.Slots.{Entry, Unused, Dead, Waiting, Taken, Odd, blank, words_at, slot_at, slots_from, places, entries, insert, sorted, queue, highest}
 use Rattle.scan_queue.specs.Decisions.{Refused, Puts, Erases, first_unused, none_waits, write, take_oldest}
-use Rattle.scan_queue.specs.Cuts.{after}
 
 abbrev pub scan : ℕ → List ℕ → Scan
 scan n l = record { serial = n; bytes = l }

@@ -1,6 +1,7 @@
 // The scan queue through its calls (document 02, L11), one line a case. D = 10, all rights by default; pages 2 and 19 lie in
 // different banks. Scans are 7, 8, 9 and so on, as many bytes as a line says.
 #![tactic(auto)]
+
 use libc::STDOUT_FILENO;
 use registers::Registers;
 

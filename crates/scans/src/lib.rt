@@ -1,5 +1,6 @@
 // The scan queue on registers: a write and a take. specs/Scans.antt says what each tells and leaves.
 #![tactic(auto)]
+
 ghost use Rattle.std.specs.Prelude.{◌≡◌, [], ◌∷◌, ◌+◌, ◌≤◌, ◌<◌, length, take, drop};
 ghost use Rattle.model.specs.State.{flash};
 ghost use Rattle.scan_queue.specs.Decisions.{refusal_of};

@@ -1,5 +1,6 @@
 // The settings, on registers: calls that are lent no image.
 #![tactic(auto)]
+
 ghost use Rattle.std.specs.Prelude.{◌≡◌};
 ghost use Rattle.calls.specs.Calls.{set_region_in, set_default_in, set_info_in, set_erase_in};
 

@@ -1,5 +1,6 @@
 // Reads a bench sheet on standard input, runs it, and prints each operation's answer and bit count, or where the sheet is bad.
 #![tactic(auto)]
+
 ghost use Rattle.std.specs.Prelude.{◌≤◌};
 
 use libc::{STDIN_FILENO, STDOUT_FILENO};

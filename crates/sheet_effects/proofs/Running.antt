@@ -7,7 +7,7 @@ use native.Mathlib.Omega.{arith}
 use native.Mathlib.Numerals.{add-one}
 use lib.ListN.{length, get_or, take, replicate, length-append}
 use lib.Seq.{sets, take-suc, take_all}
-use Rattle.model.specs.State.{Flash, flash}
+use Rattle.model.specs.State.{Flash}
 use Rattle.registers.specs.Layout.{register_count}
 use Rattle.calls.specs.declared.ToldSeeds.{ToldSeeds}
 use Rattle.calls.specs.Calls.{Left, reset_in, initialise_in}

@@ -1,5 +1,6 @@
 // What the run of a bench sheet does and leaves: stated in specs/, with laws in proofs/. There are no functions here.
 #![tactic(auto)]
+
 use sheets::Verdict;
 
 // What an entry prints, if it is an operation.

@@ -1,5 +1,6 @@
 // The readers of a bench sheet's blocks and entries, and what each entry asks for. The specs of `sheets` say what a sheet means.
 #![tactic(auto)]
+
 ghost use Rattle.std.specs.Prelude.{◌≡◌};
 ghost use Rattle.sheets.specs.Sheet.{carried, stated_at, block_at, entry_at, request_at, loaded};
 ghost use Rattle.sheets.specs.Counts.{capped, counted, once_counted, added_to, times_of};

@@ -1,6 +1,7 @@
 // The reader: a sheet and a place in it, kept together (02: the reader keeps the sheet and its place together). Each function takes it
 // apart and leaves the work to one on the slice and the place; `opening` and `ends` are for callers that have a slice.
 #![tactic(auto)]
+
 ghost use Rattle.std.specs.Prelude.{◌≡◌, length, leb};
 ghost use Rattle.sheets.specs.Sheet.{block_at};
 ghost use Rattle.sheets.specs.Counts.{counted};

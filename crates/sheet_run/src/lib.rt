@@ -1,5 +1,6 @@
 // Bench sheets, judged and run on the registers. The specs of `sheet_effects` say what a run leaves.
 #![tactic(auto)]
+
 ghost use Rattle.std.specs.Prelude.{◌≡◌, [], ◌+◌, ◌≤◌, length};
 ghost use Rattle.std.proofs.lemmas.List.Edits.{sets};
 ghost use Rattle.model.specs.State.{flash};

@@ -1,5 +1,6 @@
 // Bench sheets: their types and limits; what they mean is stated in specs/, with laws in proofs/. There are no functions here.
 #![tactic(auto)]
+
 use model::Operation;
 use numbers::Parsed;
 

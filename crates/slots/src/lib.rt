@@ -1,6 +1,7 @@
 // The reader of a slot of the scan queue: what its 16 words mean. scan_queue/specs/Slots.antt says it, specs/Code.antt what is
 // handed back.
 #![tactic(auto)]
+
 ghost use Rattle.std.specs.Prelude.{◌≡◌, ◌+◌, ◌≤◌, ◌<◌, length, get_or, drop};
 ghost use Rattle.numbers.specs.declared.Parsed.TheVariants as parsed;
 ghost use Rattle.scan_queue.specs.Payload.{all, body_of, payload_of};

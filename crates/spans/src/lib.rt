@@ -1,5 +1,6 @@
 // How far a span is allowed, and check 9, on the state where it lies.
 #![tactic(auto)]
+
 ghost use Rattle.std.specs.Prelude.{◌≡◌, true, false, not, ◌+◌, ◌<◌, ◌≤◌, get_or};
 ghost use Rattle.model.specs.Rights.{page_grants, leading, allowed_words, denied, decider_of};
 ghost use Rattle.model.specs.Kinds.{is_bank_erase};

@@ -1,5 +1,6 @@
 // Step on registers: one word of the operation in progress moves.
 #![tactic(auto)]
+
 ghost use Rattle.std.specs.Prelude.{◌≡◌, ◌+◌, ◌<◌};
 ghost use Rattle.model.specs.State.{flash};
 ghost use Rattle.model.specs.Refusals.{number_of};

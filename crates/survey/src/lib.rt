@@ -1,5 +1,6 @@
 // One look at the slots of the queue's pages, from the last to the first. specs/Survey.antt says what it tells.
 #![tactic(auto)]
+
 ghost use Rattle.std.specs.Prelude.{◌≡◌, cond, [], ◌+◌, ◌≤◌, ◌<◌, length};
 ghost use Rattle.scan_queue.specs.Slots.{slots_from, places};
 ghost use Rattle.slots.specs.Code.{toSlot};

@@ -1,5 +1,6 @@
 // A small controller, D = 10, through the public calls: what each answers, one line a call.
 #![tactic(auto)]
+
 use calls::{ToldHostWord, ToldStep, ToldWord};
 use libc::STDOUT_FILENO;
 use model::{ByteAddress, Operation, Page, PageSetting, Region};

@@ -1,5 +1,6 @@
 // Check 1 on the state where it lies: whether the numbers stand for a valid state (01: ours).
 #![tactic(auto)]
+
 ghost use Rattle.std.specs.Prelude.{◌≡◌, ◌&&◌, ◌+◌, get_or, leb};
 ghost use Rattle.model.specs.State.{flash};
 ghost use Rattle.model.specs.Refusals.{ready_answer};

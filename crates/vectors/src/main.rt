@@ -3,6 +3,7 @@
 // D = 16 and all rights given unless a line says otherwise. Images start as ones, and zeros are programmed; denied reads are made
 // on an image of zeros.
 #![tactic(auto)]
+
 mod cases;
 mod deciders;
 mod denied_reads;

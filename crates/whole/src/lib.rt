@@ -1,5 +1,6 @@
 // A whole operation on the registers: its checks once, then its words in order, without steps and queues.
 #![tactic(auto)]
+
 ghost use Rattle.std.specs.Prelude.{◌≡◌, true, ◌++◌, ◌≤◌, length, drop};
 ghost use Rattle.model.specs.State.{flash};
 ghost use Rattle.model.specs.Refusals.{accepts};

@@ -19,27 +19,27 @@ form_answer_spec =
     (λ c κs. tt)
     (λ c. simp (
       c.check.ensures,
-      c.before.before.before.unaligned-place.ensures,
-      c.before.before.before.before.before.is_information.ensures,
-      c.before.before.before.before.before.before.no_partition-partition.ensures,
-      c.before.in_default-1.keys1,
+      c.unaligned-place.ensures,
+      c.is_information.ensures,
+      c.no_partition-partition.ensures,
+      c.in-2.is,
       and-true,
       or-false,
     ))
     (λ c. simp (
       c.check-in-3.ensures,
-      c.before.before.before.unaligned-place.ensures,
-      c.before.before.before.before.before.before.no_partition-partition.ensures,
-      c.before.in_default-1.keys2,
+      c.unaligned-place.ensures,
+      c.no_partition-partition.ensures,
+      c.in-3.is,
       and-false,
       or-false,
     ))
-    (λ c. let b = c.before.before.before in rw (
+    (λ c. let b = c in rw (
       c.check-in-0.ensures,
       b.bad_count-count.ensures,
-      b.before.unaligned-place.ensures,
-      b.before.before.before.is_information.ensures,
-      b.before.before.before.before.no_partition-partition.ensures,
-      malformed_moving b.before.before.before.before.before.before.args.o c.before.if-kind-lt2.true,
+      b.unaligned-place.ensures,
+      b.is_information.ensures,
+      b.no_partition-partition.ensures,
+      malformed_moving b.args.o c.if-kind-lt2.true,
     ))
-    (λ c. let n = c.before.in_default-1.rest in rw (malformed_unknown c.before.before.before.before.before.before.before.before.args.o (omega (arith, c.if-kind-lt2.false, n.0.1, n.1)))))
+    (λ c. let n = c.in_default-1.rest in rw (malformed_unknown c.args.o (omega (arith, c.if-kind-lt2.false, n.0.1, n.1)))))

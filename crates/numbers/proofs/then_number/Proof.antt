@@ -13,5 +13,5 @@ then_number_spec =
     (λ c. search rules)
     (λ c κs. tt)
     (λ c. search rules)
-    (λ c. rw c.before.before.prior-1.given.1 c.number_to.ensures)
-    (λ c. rw c.before.prior-in-Bad-1.given.1 refl))
+    (λ c. rw c.in-Number.is c.number_to.ensures)
+    (λ c. rw c.in-Bad.is refl))

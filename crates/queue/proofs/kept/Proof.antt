@@ -21,8 +21,8 @@ loop_holds c = (omega arith, refl)
 loop_again : tie.Need-loop-i-preserved invariant_loop decreases_loop
 loop_again c =
     let s = c.before.before.args in
-    let long : length s.t1 ≡ 16 = search rules in
-    (omega arith, rw c.before.loop-i.invariant.1 (kept_more s.t1 s.from c.before.loop-i.i long (omega arith)))
+    let long : length s.old ≡ 16 = search rules in
+    (omega arith, rw c.before.loop-i.invariant.1 (kept_more s.old s.from c.before.loop-i.i long (omega arith)))
 
 returns : tie.Need-returns invariant_loop decreases_loop
 returns c =

@@ -10,7 +10,7 @@ returns : tie.Need-returns
 unfolding held oldest
 returns c =
     let q = c.before.args.q in
-    sym (get_or-take q.len q.words-1 0 0 c.before.requires.0)
+    sym (get_or-take q.len q.words 0 0 c.before.requires.0)
 
 pub oldest_spec : {M : Type 1} → statement M
 oldest_spec = tie.close (tie.spec (λ c. search rules) returns)

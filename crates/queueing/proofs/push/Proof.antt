@@ -29,7 +29,7 @@ push_spec =
     push_idle a.args.s.now a.args.word r.ready-ready.result
     r.ready-ready.ensures
     (sym c.before.before.before.before.before.accepts.ensures ∙ not-false _ c.before.before.before.before.if-not-accepts.false)
-    (sym c.before.before.progress-progress.ensures ∙ c.enum_told-1.given.1))
+    (sym c.before.before.progress-progress.ensures ∙ c.in_default.is))
     (λ c. search rules)
     (λ c.
     let r = c.before.before.before.before.before.before.before.before in
@@ -37,7 +37,7 @@ push_spec =
     push_other a.args.s.now a.args.word r.ready-ready.result
     r.ready-ready.ensures
     (sym c.before.before.before.before.before.before.before.accepts.ensures ∙ not-false _ c.before.before.before.before.before.before.if-not-accepts.false)
-    c.before.before.progress-1.given.0.0 (sym c.before.before.before.before.progress-progress.ensures ∙ c.before.before.progress-1.given.1) c.in_default-work.keys2)
+    c.before.before.progress-1.given.0.0 (sym c.before.before.before.before.progress-progress.ensures ∙ c.in-Running.is) c.in_default-work.keys2)
     (λ c κs. tt)
     (λ c κs. tt)
     (λ c.
@@ -47,7 +47,7 @@ push_spec =
     push_all a.args.s.now a.args.word r.ready-ready.result
     r.ready-ready.ensures
     (sym m.before.before.before.before.before.before.before.before.accepts.ensures ∙ not-false _ m.before.before.before.before.before.before.before.if-not-accepts.false)
-    _ _ (sym m.before.before.before.before.before.progress-progress.ensures ∙ m.before.before.before.progress-1.given.1 ∙ ap Running m.work-1.given.1)
+    _ _ (sym m.before.before.before.before.before.progress-progress.ensures ∙ m.in-Running.is ∙ ap Running m.in-Program.is)
     (rw c.before.before.programs-programs.ensures at (sym c.before.pushed_all.ensures ∙ c.if-pushed_all.true)))
     (λ c κs. tt)
     (λ c.
@@ -57,7 +57,7 @@ push_spec =
     push_full a.args.s.now a.args.word r.ready-ready.result
     r.ready-ready.ensures
     (sym m.before.before.before.before.before.before.before.before.accepts.ensures ∙ not-false _ m.before.before.before.before.before.before.before.if-not-accepts.false)
-    _ _ (sym m.before.before.before.before.before.progress-progress.ensures ∙ m.before.before.before.progress-1.given.1 ∙ ap Running m.work-1.given.1)
+    _ _ (sym m.before.before.before.before.before.progress-progress.ensures ∙ m.in-Running.is ∙ ap Running m.in-Program.is)
     (rw c.before.before.before.before.programs-programs.ensures at (sym c.before.before.before.pushed_all.ensures ∙ c.before.before.if-pushed_all.false))
     (rw c.before.before.before.before.programs-programs.ensures at (sym c.before.is_full.ensures ∙ c.if-is_full.true)))
     (λ c κs. leb-false 16 _ (sym c.before.before.is_full.ensures ∙ c.before.if-is_full.false))
@@ -70,6 +70,6 @@ push_spec =
     (push_joins a.args.s.now a.args.word r.ready-ready.result
     r.ready-ready.ensures
     (sym m.before.before.before.before.before.before.before.before.accepts.ensures ∙ not-false _ m.before.before.before.before.before.before.before.if-not-accepts.false)
-    _ _ (sym m.before.before.before.before.before.progress-progress.ensures ∙ m.before.before.before.progress-1.given.1 ∙ ap Running m.work-1.given.1)
+    _ _ (sym m.before.before.before.before.before.progress-progress.ensures ∙ m.in-Running.is ∙ ap Running m.in-Program.is)
     (rw c.before.before.before.before.before.before.before.programs-programs.ensures at (sym c.before.before.before.before.before.before.pushed_all.ensures ∙ c.before.before.before.before.before.if-pushed_all.false))
     (rw c.before.before.before.before.before.before.before.programs-programs.ensures at (sym c.before.before.before.before.is_full.ensures ∙ c.before.before.before.if-is_full.false)))))

@@ -6,4 +6,4 @@ pub accepts_spec : {M : Type 1} → statement M
 accepts_spec =
     tie.close (tie.spec
     (λ c κs. tt)
-    (λ c. rw c.number_of_lem.ensures))
+    (λ c. rw c.number_of.ensures))

@@ -10,5 +10,5 @@ recorded_spec =
     tie.close (tie.spec
     (λ c κs. tt)
     (λ c κs. tt)
-    (λ c. simp (← c.before.before.before.before.before.before.number_of_lem.ensures, sym c.before.before.before.before.before.is_recorded.ensures ∙ c.before.before.before.before.if-is_recorded.true))
-    (λ c. simp (← c.before.before.number_of_lem.ensures, sym c.before.is_recorded.ensures ∙ c.if-is_recorded.false)))
+    (λ c. simp (← c.before.before.before.before.before.before.number_of-n.ensures, sym c.before.before.before.before.before.is_recorded.ensures ∙ c.before.before.before.before.if-is_recorded.true))
+    (λ c. simp (← c.before.before.number_of-n.ensures, sym c.before.is_recorded.ensures ∙ c.if-is_recorded.false)))

@@ -21,16 +21,16 @@ loop_again : tie.Need-loop-i-preserved invariant_loop decreases_loop
 loop_again c =
     let l = c.before.loop-i in
     let a = c.before.before.before.args in
-    let long : length a.q.words-1 ≡ 16 = search rules in
+    let long : length a.q.words ≡ 16 = search rules in
     let next : a.at + (l.i + 1) ≡ suc (a.at + l.i) = omega arith in
-    (omega arith, rw (next, add-one) (rw (drop-cons a.q.words-1 l.i 0 (omega arith)) at l.invariant.1))
+    (omega arith, rw (next, add-one) (rw (drop-cons a.q.words l.i 0 (omega arith)) at l.invariant.1))
 
 returns : tie.Need-returns invariant_loop decreases_loop
 returns c =
     let l = c.before.loop-i in
     let a = c.before.before.before.args in
-    let long : length a.q.words-1 ≡ 16 = search rules in
-    let none : drop l.i a.q.words-1 ≡ [] = drop_of_length-le a.q.words-1 {i = l.i} (omega arith) in
+    let long : length a.q.words ≡ 16 = search rules in
+    let none : drop l.i a.q.words ≡ [] = drop_of_length-le a.q.words {i = l.i} (omega arith) in
     rw (rw none at l.invariant.1)
 
 pub put_queue_spec : {M : Type 1} → statement M

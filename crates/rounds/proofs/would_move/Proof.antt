@@ -12,8 +12,8 @@ would_move_spec =
     (λ c κs. tt)
     (λ c. search rules)
     (λ c. search rules)
-    (λ c. rw (sym c.before.before.progress-progress.ensures ∙ c.enum_told-1.given.1))
+    (λ c. rw (sym c.before.before.progress-progress.ensures ∙ c.in_default.is))
     (λ c κs. tt)
     (λ c.
     let p = c.before.before.before.before in
-    ap not c.stalls-waits.ensures ∙ ap (goes _) (sym c.before.before.progress-1.given.1 ∙ p.progress-progress.ensures)))
+    ap not c.stalls-waits.ensures ∙ ap (goes _) (sym c.in-Running.is ∙ p.progress-progress.ensures)))

@@ -26,7 +26,7 @@ for_take_spec =
     let e = p.before in
     let t = e.before.before in
     let s = t.before.before in
-    absurd (never s.args.image.now s.args.a s.args.b s.requires t.survey_both-s.result t.survey_both-s.ensures (not-false _ e.if-not-s.false) p.payload_at-body.result p.payload_at-body.ensures c.enum_told-1.given.1))
+    absurd (never s.args.image.now s.args.a s.args.b s.requires t.survey_both-s.result t.survey_both-s.ensures (not-false _ e.if-not-s.false) p.payload_at-body.result p.payload_at-body.ensures c.in_default.is))
     (λ c.
     let f = c.before.body-1.given in
     let p = c.before.before.before in

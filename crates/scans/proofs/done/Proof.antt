@@ -12,26 +12,26 @@ use Rattle.scans.proofs.done.Tie as tie
 put_requires : tie.Need-put-requires
 put_requires c κs =
     let s = c.before.before.before.before.before.before.before in
-    let i = subst (λ (x : WritePlan). Inside s.args.image-1.now s.args.bytes.now x) c.before.before.before.plan-in-Puts-1.given.1 s.requires.0 in
+    let i = subst (λ (x : WritePlan). Inside s.args.image-1.now s.args.bytes.now x) c.in-Puts.is s.requires.0 in
     (omega (arith, i.0, s.requires.1), i.1, i.2)
 
 erase_and_put_requires : tie.Need-erase_and_put-requires
 erase_and_put_requires c κs =
     let s = c.before.before.before.before.before.before.before in
-    let i = subst (λ (x : WritePlan). Inside s.args.image-1.now s.args.bytes.now x) c.before.before.before.plan-in-Erases-1.given.1 s.requires.0 in
+    let i = subst (λ (x : WritePlan). Inside s.args.image-1.now s.args.bytes.now x) c.in-Erases.is s.requires.0 in
     (omega (arith, i.0, s.requires.1), i.1, i.2)
 
 returns_2 : tie.Need-returns-in-Puts
 unfolding jobs
 returns_2 c =
     let p = c.before.before.before in
-    rw (c.written.ensures, p.before.before.before.before.plan-in-Puts-1.given.1) (ap (write_told 0) p.put.ensures)
+    rw (c.written.ensures, p.in-Puts.is) (ap (write_told 0) p.put.ensures)
 
 returns_3 : tie.Need-returns-in-Erases
 unfolding jobs
 returns_3 c =
     let p = c.before.before.before in
-    rw (c.written-in-Erases.ensures, p.before.before.before.before.plan-in-Erases-1.given.1) (ap (write_told 0) p.erase_and_put.ensures)
+    rw (c.written-in-Erases.ensures, p.in-Erases.is) (ap (write_told 0) p.erase_and_put.ensures)
 
 pub done_spec : {M : Type 1} → statement M
 unfolding jobs jobs_in
@@ -45,7 +45,7 @@ done_spec =
     (λ c. search rules)
     erase_and_put_requires
     (λ c κs. tt)
-    (λ c. rw c.before.plan-1.given.1 refl)
+    (λ c. rw c.in-Refused.is refl)
     (λ c. search rules)
     returns_2
     (λ c. search rules)

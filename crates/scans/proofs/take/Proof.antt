@@ -38,7 +38,7 @@ returns_2 c =
     ) at w.for_take-plan.ensures in
     rw c.no_scan-in_default.ensures
     (take_none a.s.now (flash a.image-1.now) a.a a.b _ e.before.pages_answer-first.ensures e.if-first-ne0.false a.steps _ refl
-    (nothing_waits a.image-1.now _ _ c.before.enum_told-1.given.1 told))
+    (nothing_waits a.image-1.now _ _ c.in_default.is told))
 
 hand_out_requires : tie.Need-hand_out-requires
 hand_out_requires c κs =

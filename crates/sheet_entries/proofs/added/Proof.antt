@@ -13,5 +13,5 @@ added_spec =
     (λ c. search rules)
     (λ c κs. tt)
     (λ c. search rules)
-    (λ c. rw (c.before.before.rest-1.given.1, c.cap.ensures) refl)
-    (λ c. rw c.before.rest-in-Bad-1.given.1 refl))
+    (λ c. rw (c.in-Number.is, c.cap.ensures) refl)
+    (λ c. rw c.in-Bad.is refl))

@@ -10,5 +10,5 @@ once_spec =
     (tie.spec
     (λ c. search rules)
     (λ c. search rules)
-    (λ c. rw c.before.r-1.given.1 refl)
-    (λ c. rw c.before.r-in-Bad-1.given.1 refl))
+    (λ c. rw c.in-Number.is refl)
+    (λ c. rw c.in-Bad.is refl))

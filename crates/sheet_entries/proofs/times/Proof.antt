@@ -14,5 +14,5 @@ times_spec =
     (λ c. record { fits = product _ _ (search rules) (search rules) })
     (λ c κs. tt)
     (λ c. search rules)
-    (λ c. rw (c.before.before.block-1.given.1, c.cap.ensures) refl)
-    (λ c. rw c.before.block-in-Bad-1.given.1 refl))
+    (λ c. rw (c.in-Number.is, c.cap.ensures) refl)
+    (λ c. rw c.in-Bad.is refl))

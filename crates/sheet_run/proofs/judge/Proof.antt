@@ -17,19 +17,19 @@ judge_spec =
     (λ c.
     let b = c.before.before.before.before in
     let o = b.before.before in
-    verdict_good o.before.before.before.args.sheet.now o.before.if-sheet-gt-MAX_BYTES.false _ _ (sym b.block-1.given.1 ∙ o.opening-block.ensures)
+    verdict_good o.before.before.before.args.sheet.now o.before.if-sheet-gt-MAX_BYTES.false _ _ (sym b.in-Number.is ∙ o.opening-block.ensures)
     (leb-true _ _ (sym c.before.before.ends.ensures ∙ c.before.if-ends.true)) c.if-value-le-MAX_ENTRIES.true)
     (λ c.
     let b = c.before.before.before.before in
     let o = b.before.before in
-    verdict_large o.before.before.before.args.sheet.now o.before.if-sheet-gt-MAX_BYTES.false _ _ (sym b.block-1.given.1 ∙ o.opening-block.ensures)
+    verdict_large o.before.before.before.args.sheet.now o.before.if-sheet-gt-MAX_BYTES.false _ _ (sym b.in-Number.is ∙ o.opening-block.ensures)
     (leb-true _ _ (sym c.before.before.ends.ensures ∙ c.before.if-ends.true)) c.if-value-le-MAX_ENTRIES.false)
     (λ c. search rules)
     (λ c.
     let b = c.before.before.before in
     let o = b.before.before in
-    verdict_after o.before.before.before.args.sheet.now o.before.if-sheet-gt-MAX_BYTES.false _ _ (sym b.block-1.given.1 ∙ o.opening-block.ensures)
+    verdict_after o.before.before.before.args.sheet.now o.before.if-sheet-gt-MAX_BYTES.false _ _ (sym b.in-Number.is ∙ o.opening-block.ensures)
     (leb-false _ _ (sym c.before.ends.ensures ∙ c.if-ends.false)))
     (λ c.
     let o = c.before.before.before in
-    verdict_bad o.before.before.before.args.sheet.now o.before.if-sheet-gt-MAX_BYTES.false _ (sym c.before.block-in-Bad-1.given.1 ∙ o.opening-block.ensures)))
+    verdict_bad o.before.before.before.args.sheet.now o.before.if-sheet-gt-MAX_BYTES.false _ (sym c.in-Bad.is ∙ o.opening-block.ensures)))

@@ -30,13 +30,13 @@ run_spec =
     (λ c.
     let j = c.before.before in
     let a = j.before.before.before.args in
-    rw c.enum_told-1.given.1 (run_bad a.sheet.now a.s.now (flash a.image-1.now) a.row.now _ (sym c.enum_told-1.given.1 ∙ j.judge-verdict.ensures)))
+    rw c.in_default.is (run_bad a.sheet.now a.s.now (flash a.image-1.now) a.row.now _ (sym c.in_default.is ∙ j.judge-verdict.ensures)))
     (λ c κs.
     let v = c.before.before in
-    good_room _ _ (sym v.verdict-1.given.1 ∙ v.before.before.judge-verdict.ensures))
+    good_room _ _ (sym v.in-Good.is ∙ v.before.before.judge-verdict.ensures))
     (λ c.
     let v = c.before.before.before in
-    (omega arith, runs_few _ _ (sym v.verdict-1.given.1 ∙ v.before.before.judge-verdict.ensures), refl, running_none))
+    (omega arith, runs_few _ _ (sym v.in-Good.is ∙ v.before.before.judge-verdict.ensures), refl, running_none))
     (λ c. search rules)
     (λ c. omega arith)
     (λ c. omega arith)
@@ -48,7 +48,7 @@ run_spec =
     let p = c.before.before.before.before in
     let l = p.before.before.before.before in
     let v = l.before.before.before.before in
-    let e = sym v.verdict-1.given.1 ∙ v.before.before.judge-verdict.ensures in
+    let e = sym v.in-Good.is ∙ v.before.before.judge-verdict.ensures in
     let i = l.loop-i.i in
     let h = p.before.before.before.loop-i-test.true in
     let at = runs_at _ _ e l.before.expand.ensures i h in (
@@ -61,4 +61,4 @@ run_spec =
     (λ c. search rules)
     (λ c.
     let v = c.before.before.before.before.before in
-    run_good _ _ (sym v.verdict-1.given.1 ∙ v.before.before.judge-verdict.ensures) (omega arith) c.before.loop-i.invariant.3))
+    run_good _ _ (sym v.in-Good.is ∙ v.before.before.judge-verdict.ensures) (omega arith) c.before.loop-i.invariant.3))

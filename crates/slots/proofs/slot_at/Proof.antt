@@ -34,7 +34,7 @@ returns_4 : tie.Need-returns-in-Broken
 returns_4 c =
     let a = c.before.before.before.before.before.before.before.args in
     let h = c.before.before.payload_at in
-    sym (slot_broken a.image.now a.p c.before.before.before.before.if-image-p-eq0.true h.result h.ensures c.enum_told-1.given.1)
+    sym (slot_broken a.image.now a.p c.before.before.before.before.if-image-p-eq0.true h.result h.ensures c.in-Broken.is)
 
 returns_5 : tie.Need-returns-else-mark-eq0
 returns_5 c =

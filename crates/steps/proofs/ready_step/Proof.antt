@@ -14,19 +14,19 @@ ready_step_spec =
     (λ c κs. tt)
     (λ c.
     let p = c.before.before.before in
-    rw c.still.ensures (step_nothing _ _ p.before.before.before.requires (sym p.progress-progress.ensures ∙ c.before.enum_told-1.given.1)))
+    rw c.still.ensures (step_nothing _ _ p.before.before.before.requires (sym p.progress-progress.ensures ∙ c.in_default.is)))
     (λ c κs. tt)
     (λ c κs. tt)
     (λ c.
     let w = c.before.before.before.before.before in
     let p = w.before.before in
     rw c.still-then-stalls.ensures
-    (step_waits _ _ p.before.before.before.requires _ (sym p.progress-progress.ensures ∙ w.progress-1.given.1)
+    (step_waits _ _ p.before.before.before.requires _ (sym p.progress-progress.ensures ∙ w.in-Running.is)
     (sym c.before.before.stalls.ensures ∙ c.before.if-stalls.true)))
     (λ c κs.
     let w = c.before.before.before.before.before.before in
     let p = w.before.before in
-    step_moves _ _ p.before.before.before.requires _ (sym p.progress-progress.ensures ∙ w.progress-1.given.1)
+    step_moves _ _ p.before.before.before.requires _ (sym p.progress-progress.ensures ∙ w.in-Running.is)
     (sym c.before.before.before.stalls.ensures ∙ c.before.before.if-stalls.false))
     (λ c. search rules)
     (λ c.
@@ -34,5 +34,5 @@ ready_step_spec =
     let w = t.before.before.before.before in
     let p = w.before.before in
     rw c.before.before.advance.ensures
-    (step_goes _ _ p.before.before.before.requires _ (sym p.progress-progress.ensures ∙ w.progress-1.given.1)
+    (step_goes _ _ p.before.before.before.requires _ (sym p.progress-progress.ensures ∙ w.in-Running.is)
     (sym t.before.stalls.ensures ∙ t.if-stalls.false))))

@@ -40,7 +40,7 @@ returns c =
     rw (
       c.read_fits-fits.ensures,
       c.before.total_words.ensures,
-      m.w-1.given.1,
+      m.in-Read.is,
       m.before.before.program_count-queued.ensures,
       m.before.before.before.pages-d.ensures,
       read_asked,
@@ -67,7 +67,7 @@ returns_2 c =
       c.pushed_fits-pushed.ensures,
       c.before.program_fits-fits.ensures,
       c.before.before.total_words-in-Program.ensures,
-      m.w-in-Program-1.given.1,
+      m.in-Program.is,
       m.before.before.program_count-queued.ensures,
       m.before.before.before.pages-d.ensures,
       program_asked,
@@ -103,7 +103,7 @@ work_fits_spec =
       c.before.before.total_words-in-Erase.ensures,
       c.before.before.before.is_bank_erase-bank.ensures,
       c.before.before.before.before.is_page_erase-page.ensures,
-      m.w-in-Erase-1.given.1,
+      m.in-Erase.is,
       m.before.before.program_count-queued.ensures,
       m.before.before.before.pages-d.ensures,
     )))
