@@ -16,7 +16,7 @@ use Rattle.answers.proofs.program_fits.Statement.{statement}
 use Rattle.answers.proofs.program_fits.Tie as tie
 
 -- What passed the first test is a program, and well formed.
-asked : (d : tie.After-accepts) → not (d.before.before.is_program-program.result && d.accepts-formed.result) ≡ false →
+asked : (d : tie.After-accepts-formed) → not (d.before.before.is_program-program.result && d.accepts-formed.result) ≡ false →
     let o = d.before.before.before.args.o in
     (is_program o ≡ true) × (malformed o ≡ false)
 asked d h =
@@ -26,7 +26,7 @@ asked d h =
     (sym p.ensures ∙ and_left p.result f.result both, check_passed _ Malformed refl (rw d.before.form_answer.ensures at (sym f.ensures ∙ and_right p.result f.result both)))
 
 -- What the test for its range answered.
-outside : (d : tie.After-out-of-range) →
+outside : (d : tie.After-out_of_range) →
     let a = d.before.before.before.before.before.before.args in
     d.out_of_range.result ≡ out_of_range (get_or a.s.now pages_at 0) a.o
 outside d = rw d.before.pages.ensures at d.out_of_range.ensures

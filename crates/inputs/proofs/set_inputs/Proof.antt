@@ -7,7 +7,7 @@ use Rattle.inputs.proofs.set_inputs.Statement.{statement}
 use Rattle.inputs.proofs.set_inputs.Tie as tie
 
 -- By what the checks answered.
-set : (d : tie.After-setting-answer) →
+set : (d : tie.After-setting_answer-answer) →
     let v = d.before.before.args in
     Set v.s.now true d.setting_answer-answer.result (put_inputs v.s.now v.inputs) (set_inputs_in v.s.now v.inputs)
 set d = inputs_set _ _ _ d.setting_answer-answer.ensures

@@ -1,7 +1,6 @@
 -- `lifecycle::initialise` meets its contract. Assumes nothing.
 use mathlib.Core.Path.{◌≡◌, sym, ◌∙◌}
 use mathlib.Core.Bool.{true, false}
-use borrow.Author.Tests.{not-true, not-false}
 use Rattle.model.specs.State.{flash}
 use Rattle.model.specs.Refusals.{accepts}
 use Rattle.model.specs.Lifecycle.{initialise_answer}
@@ -17,10 +16,10 @@ asked : (d : tie.After-accepts) →
 asked d = rw d.before.initialise_answer-answer.ensures at d.accepts.ensures
 
 -- In the branch that writes the phase, they did.
-granted : (d : tie.After-put-phase) →
+granted : (d : tie.After-put_phase) →
     let v = d.before.before.before.before.before.before.before.before.before.before.before.args in
     accepts (initialise_answer (decode v.s.now) (flash v.image.now)) ≡ true
-granted d = let t = d.before.before.before.before.before.before in sym (asked t.before) ∙ not-false _ t.if-not-accepts.false
+granted d = let t = d.before.before.before.before.before.before in sym (asked t.before) ∙ t.if-not-accepts.false
 
 pub initialise_spec : {M : Type 1} → statement M
 initialise_spec =
@@ -33,7 +32,7 @@ initialise_spec =
       c.no_seeds.ensures,
       c.before.number.ensures,
       d.before.initialise_answer-answer.ensures,
-    ) (initialise_refused _ _ (sym (asked d) ∙ not-true _ c.before.before.if-not-accepts.true)))
+    ) (initialise_refused _ _ (sym (asked d) ∙ c.before.before.if-not-accepts.true)))
     (λ c κs. tt)
     (λ c κs. tt)
     (λ c κs. tt)

@@ -1,7 +1,6 @@
 -- `lifecycle::rma` meets its contract. Assumes nothing.
 use mathlib.Core.Path.{◌≡◌, sym, ◌∙◌}
 use mathlib.Core.Bool.{true}
-use borrow.Author.Tests.{not-true, not-false}
 use borrow.Author.Rules.{rules}
 use Rattle.model.specs.State.{flash}
 use Rattle.model.specs.Refusals.{accepts}
@@ -21,7 +20,7 @@ asked d = rw d.before.rma_answer-answer.ensures at d.accepts.ensures
 granted : (d : tie.After-pages) →
     let v = d.before.before.before.before.before.before.before.before.before.args in
     accepts (rma_answer (decode v.s.now) (flash v.image-1.now)) ≡ true
-granted d = let t = d.before.before.before in sym (asked t.before) ∙ not-false _ t.if-not-accepts.false
+granted d = let t = d.before.before.before in sym (asked t.before) ∙ t.if-not-accepts.false
 
 pub rma_spec : {M : Type 1} → statement M
 rma_spec =
@@ -30,7 +29,7 @@ rma_spec =
     (λ c κs. tt)
     (λ c κs. tt)
     (λ c. search rules)
-    (λ c. let d = c.before.before in rw (c.number.ensures, d.before.rma_answer-answer.ensures) (rma_refused _ _ (sym (asked d) ∙ not-true _ c.before.if-not-accepts.true)))
+    (λ c. let d = c.before.before in rw (c.number.ensures, d.before.rma_answer-answer.ensures) (rma_refused _ _ (sym (asked d) ∙ c.before.if-not-accepts.true)))
     (λ c κs. tt)
     (λ c κs. rw c.pages.ensures (rma_fits _ _ (granted c)))
     (λ c κs. tt)

@@ -7,7 +7,7 @@ use Rattle.operations.proofs.begin.Statement.{statement}
 use Rattle.operations.proofs.begin.Tie as tie
 
 -- In the branch of what starts.
-going : (c : tie.Then1) → let a = c.before.before.args in starts a.o a.answer ≡ true
+going : (c : tie.Then-starts) → let a = c.before.before.args in starts a.o a.answer ≡ true
 going c = sym c.before.starts.ensures ∙ c.if-starts.true
 
 pub begin_spec : {M : Type 1} → statement M

@@ -1,6 +1,6 @@
 -- `queueing::push` meets its contract. Assumes nothing.
 use mathlib.Core.Path.{sym, ap, ◌∙◌}
-use borrow.Author.Tests.{leb-false, not-true, not-false}
+use borrow.Author.Tests.{leb-false}
 use borrow.Author.Rules.{rules}
 use Rattle.model.specs.declared.Progress.TheVariants.{Running}
 use Rattle.queueing.proofs.Pushed.{push_early, push_idle, push_other, push_all, push_full, push_joins}
@@ -19,7 +19,7 @@ push_spec =
     rw c.number.ensures
     (push_early a.args.s.now a.args.word r.ready-ready.result
     r.ready-ready.ensures
-    (sym c.before.before.accepts.ensures ∙ not-true _ c.before.if-not-accepts.true)))
+    (sym c.before.before.accepts.ensures ∙ c.before.if-not-accepts.true)))
     (λ c κs. tt)
     (λ c. search rules)
     (λ c. search rules)
@@ -28,7 +28,7 @@ push_spec =
     let a = r.before.before in
     push_idle a.args.s.now a.args.word r.ready-ready.result
     r.ready-ready.ensures
-    (sym c.before.before.before.before.before.accepts.ensures ∙ not-false _ c.before.before.before.before.if-not-accepts.false)
+    (sym c.before.before.before.before.before.accepts.ensures ∙ c.before.before.before.before.if-not-accepts.false)
     (sym c.before.before.progress-progress.ensures ∙ c.in_default.is))
     (λ c. search rules)
     (λ c.
@@ -36,7 +36,7 @@ push_spec =
     let a = r.before.before in
     push_other a.args.s.now a.args.word r.ready-ready.result
     r.ready-ready.ensures
-    (sym c.before.before.before.before.before.before.before.accepts.ensures ∙ not-false _ c.before.before.before.before.before.before.if-not-accepts.false)
+    (sym c.before.before.before.before.before.before.before.accepts.ensures ∙ c.before.before.before.before.before.before.if-not-accepts.false)
     c.before.before.progress-1.given.0.0 (sym c.before.before.before.before.progress-progress.ensures ∙ c.in-Running.is) c.in_default-work.keys2)
     (λ c κs. tt)
     (λ c κs. tt)
@@ -46,7 +46,7 @@ push_spec =
     let a = r.before.before in
     push_all a.args.s.now a.args.word r.ready-ready.result
     r.ready-ready.ensures
-    (sym m.before.before.before.before.before.before.before.before.accepts.ensures ∙ not-false _ m.before.before.before.before.before.before.before.if-not-accepts.false)
+    (sym m.before.before.before.before.before.before.before.before.accepts.ensures ∙ m.before.before.before.before.before.before.before.if-not-accepts.false)
     _ _ (sym m.before.before.before.before.before.progress-progress.ensures ∙ m.in-Running.is ∙ ap Running m.in-Program.is)
     (rw c.before.before.programs-programs.ensures at (sym c.before.pushed_all.ensures ∙ c.if-pushed_all.true)))
     (λ c κs. tt)
@@ -56,7 +56,7 @@ push_spec =
     let a = r.before.before in
     push_full a.args.s.now a.args.word r.ready-ready.result
     r.ready-ready.ensures
-    (sym m.before.before.before.before.before.before.before.before.accepts.ensures ∙ not-false _ m.before.before.before.before.before.before.before.if-not-accepts.false)
+    (sym m.before.before.before.before.before.before.before.before.accepts.ensures ∙ m.before.before.before.before.before.before.before.if-not-accepts.false)
     _ _ (sym m.before.before.before.before.before.progress-progress.ensures ∙ m.in-Running.is ∙ ap Running m.in-Program.is)
     (rw c.before.before.before.before.programs-programs.ensures at (sym c.before.before.before.pushed_all.ensures ∙ c.before.before.if-pushed_all.false))
     (rw c.before.before.before.before.programs-programs.ensures at (sym c.before.is_full.ensures ∙ c.if-is_full.true)))
@@ -69,7 +69,7 @@ push_spec =
     rw (c.put_programs.ensures, c.before.push.ensures, c.before.before.before.before.before.before.before.programs-programs.ensures)
     (push_joins a.args.s.now a.args.word r.ready-ready.result
     r.ready-ready.ensures
-    (sym m.before.before.before.before.before.before.before.before.accepts.ensures ∙ not-false _ m.before.before.before.before.before.before.before.if-not-accepts.false)
+    (sym m.before.before.before.before.before.before.before.before.accepts.ensures ∙ m.before.before.before.before.before.before.before.if-not-accepts.false)
     _ _ (sym m.before.before.before.before.before.progress-progress.ensures ∙ m.in-Running.is ∙ ap Running m.in-Program.is)
     (rw c.before.before.before.before.before.before.before.programs-programs.ensures at (sym c.before.before.before.before.before.before.pushed_all.ensures ∙ c.before.before.before.before.before.if-pushed_all.false))
     (rw c.before.before.before.before.before.before.before.programs-programs.ensures at (sym c.before.before.before.before.is_full.ensures ∙ c.before.before.before.if-is_full.false)))))

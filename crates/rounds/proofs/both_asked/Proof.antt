@@ -2,7 +2,7 @@
 use mathlib.Core.Path.{◌≡◌, sym, ◌∙◌}
 use mathlib.Core.Bool.{Bool, false, not}
 use borrow.Author.Rules.{rules}
-use borrow.Author.Tests.{not-true, not-false}
+use borrow.Author.Tests.{not-false}
 use Rattle.model.specs.State.{flash}
 use Rattle.model.specs.Rounds.{competes, round}
 use Rattle.model.proofs.Rounds.{goes_would, competes_goes}
@@ -32,7 +32,7 @@ returns : tie.Need-returns-then-not-accepts
 unfolding round_in round
 returns c =
     let r = c.before.before.before in
-    let refused = sym c.before.before.accepts.ensures ∙ not-true _ c.before.if-not-accepts.true in
+    let refused = sym c.before.before.accepts.ensures ∙ c.before.if-not-accepts.true in
     rw (c.both_refused.ensures, unready_alone _ _ _ (rw r.ready_with-ready.ensures at refused))
     (left_refused _ _ _ r.ready_with-ready.result r.ready_with-ready.ensures refused)
 

@@ -12,13 +12,13 @@ use Rattle.rounds.proofs.contest.Statement.{statement}
 use Rattle.rounds.proofs.contest.Tie as tie
 
 -- The step would move a word in the bank that was found.
-found : (d : tie.After-next-bank) →
+found : (d : tie.After-next_bank-bank) →
     let v = d.before.before.before.args in
     Contested v.s.now (flash v.image-1.now) d.next_bank-bank.result
 found d = record { moves = d.before.before.before.requires; same = d.next_bank-bank.ensures.0; small = d.next_bank-bank.ensures.1 }
 
 -- The lost count of that bank.
-abbrev count : tie.After-next-bank → ℕ
+abbrev count : tie.After-next_bank-bank → ℕ
 count d = get_or d.before.before.before.args.s.now (135 + d.next_bank-bank.result) 0
 
 pub contest_spec : {M : Type 1} → statement M

@@ -8,7 +8,7 @@ use Rattle.settings.proofs.set_default.Statement.{statement}
 use Rattle.settings.proofs.set_default.Tie as tie
 
 -- By what the checks answered.
-set : (d : tie.After-setting-answer) →
+set : (d : tie.After-setting_answer-answer) →
     let v = d.before.before.before.args in
     Set v.s.now (rights_fit v.rights) d.setting_answer-answer.result (list.set v.s.now 4 v.rights) (set_default_in v.s.now v.rights)
 set d = default_set _ _ _ (rw d.before.rights_fit.ensures at d.setting_answer-answer.ensures)

@@ -10,7 +10,7 @@ use Rattle.settings.proofs.set_erase.Statement.{statement}
 use Rattle.settings.proofs.set_erase.Tie as tie
 
 -- By what the checks answered.
-set : (d : tie.After-setting-answer) →
+set : (d : tie.After-setting_answer-answer) →
     let v = d.before.before.args in
     Set v.s.now (ltb v.bank 2) d.setting_answer-answer.result (put_erase v.s.now v.bank v.on) (set_erase_in v.s.now v.bank v.on)
 set d = erase_set _ _ _ _ d.setting_answer-answer.ensures

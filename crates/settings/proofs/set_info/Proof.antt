@@ -12,7 +12,7 @@ use Rattle.settings.proofs.set_info.Statement.{statement}
 use Rattle.settings.proofs.set_info.Tie as tie
 
 -- By what the checks answered.
-set : (d : tie.After-setting-answer) →
+set : (d : tie.After-setting_answer-answer) →
     let v = d.before.before.before.before.args in
     let s = v.s.now in
     Set s (info_exists v.bank v.t v.page && page_fits v.p) d.setting_answer-answer.result

@@ -14,7 +14,7 @@ use Rattle.settings.proofs.set_region.Statement.{statement}
 use Rattle.settings.proofs.set_region.Tie as tie
 
 -- By what the checks answered.
-set : (d : tie.After-setting-answer) →
+set : (d : tie.After-setting_answer-answer) →
     let v = d.before.before.before.before.before.args in
     let s = v.s.now in
     Set s (ltb v.number 8 && region_fits (get_or s pages_at 0) v.g) d.setting_answer-answer.result (put_region s v.number v.g) (set_region_in s v.number v.g)

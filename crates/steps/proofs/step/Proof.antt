@@ -1,6 +1,5 @@
 -- `steps::step` meets its contract. Assumes nothing.
 use mathlib.Core.Path.{sym, ◌∙◌}
-use borrow.Author.Tests.{not-true, not-false}
 use borrow.Author.Rules.{rules}
 use Rattle.model.specs.State.{flash}
 use Rattle.steps.proofs.Left.{step_early}
@@ -20,7 +19,7 @@ step_spec =
     rw c.still.ensures
     (step_early a.args.s.now (flash a.args.image-1.now) r.ready_with-ready.result
     r.ready_with-ready.ensures
-    (sym c.before.before.accepts.ensures ∙ not-true _ c.before.if-not-accepts.true)))
-    (λ c κs. rw c.before.before.before.before.ready_with-ready.ensures at (sym c.before.before.before.accepts.ensures ∙ not-false _ c.before.before.if-not-accepts.false))
+    (sym c.before.before.accepts.ensures ∙ c.before.if-not-accepts.true)))
+    (λ c κs. rw c.before.before.before.before.ready_with-ready.ensures at (sym c.before.before.before.accepts.ensures ∙ c.before.before.if-not-accepts.false))
     (λ c. search rules)
     (λ c. c.before.before.ready_step.ensures))

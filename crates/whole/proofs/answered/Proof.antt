@@ -18,7 +18,7 @@ use Rattle.whole.proofs.answered.Statement.{statement}
 use Rattle.whole.proofs.answered.Tie as tie
 
 -- In the branch of an accepted operation.
-accepted : (c : tie.Then1) → let s = c.before.before.before.before in accepts (operation_answer (setup_of s.args.s.now) s.args.o) ≡ true
+accepted : (c : tie.Then-accepts) → let s = c.before.before.before.before in accepts (operation_answer (setup_of s.args.s.now) s.args.o) ≡ true
 accepted c = sym (ap accepts c.before.before.before.before.requires.1) ∙ sym c.before.accepts.ensures ∙ c.if-accepts.true
 
 returns : tie.Need-returns-then-accepts
@@ -28,7 +28,7 @@ returns c =
     rw (s.requires.1 ∙ accepted_told _ _ (accepted t)) c.before.before.before.before.started.ensures
 
 -- In that of a denied read.
-denied : (c : tie.Then2) → let s = c.before.before.before.before.before.before.before.before in is_denied_read s.args.o (number_of s.args.answer) ≡ true
+denied : (c : tie.Then-is_denied_read) → let s = c.before.before.before.before.before.before.before.before in is_denied_read s.args.o (number_of s.args.answer) ≡ true
 denied c = sym c.before.is_denied_read.ensures ∙ c.if-is_denied_read.true
 
 recorded_requires : tie.Need-recorded-errors-requires

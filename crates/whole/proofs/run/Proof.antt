@@ -1,7 +1,6 @@
 -- `whole::run` meets its contract. Assumes nothing.
 use mathlib.Core.Path.{◌≡◌, sym, ◌∙◌}
 use mathlib.Core.Bool.{true}
-use borrow.Author.Tests.{not-true, not-false}
 use borrow.Author.Rules.{rules}
 use Rattle.model.specs.State.{flash}
 use Rattle.model.specs.Refusals.{accepts}
@@ -17,11 +16,11 @@ returns c =
     let a = t.before.before.before.before.before.before.before.args in
     rw c.told.ensures
     (run_refused a.s.now (flash a.image-1.now) a.o a.buffer-1.now _ t.before.before.whole_answer-first.ensures
-    (sym t.before.accepts.ensures ∙ not-true _ t.if-not-accepts.true))
+    (sym t.before.accepts.ensures ∙ t.if-not-accepts.true))
 
 -- Past the first test, checks 1 to 4 passed.
-free : (c : tie.Else1) → let a = c.before.before.before.before.before.before.before.args in accepts (whole_answer (decode a.s.now) (flash a.image-1.now)) ≡ true
-free c = rw c.before.before.whole_answer-first.ensures at (sym c.before.accepts.ensures ∙ not-false _ c.if-not-accepts.false)
+free : (c : tie.Else-not-accepts) → let a = c.before.before.before.before.before.before.before.args in accepts (whole_answer (decode a.s.now) (flash a.image-1.now)) ≡ true
+free c = rw c.before.before.whole_answer-first.ensures at (sym c.before.accepts.ensures ∙ c.if-not-accepts.false)
 
 returns_2 : tie.Need-returns-then-short_buffer
 returns_2 c =

@@ -1,6 +1,5 @@
 -- `whole::whole_answer` meets its contract. Assumes nothing.
 use mathlib.Core.Path.{sym, ◌∙◌}
-use borrow.Author.Tests.{not-true, not-false}
 use Rattle.whole.proofs.Completed.{unready, ready}
 use Rattle.whole.proofs.whole_answer.Statement.{statement}
 use Rattle.whole.proofs.whole_answer.Tie as tie
@@ -10,7 +9,7 @@ whole_answer_spec =
     tie.close (tie.spec
     (λ c κs. tt)
     (λ c κs. tt)
-    (λ c. unready _ _ _ c.before.before.ready_with-ready.ensures (sym c.before.accepts.ensures ∙ not-true _ c.if-not-accepts.true))
+    (λ c. unready _ _ _ c.before.before.ready_with-ready.ensures (sym c.before.accepts.ensures ∙ c.if-not-accepts.true))
     (λ c κs. tt)
     (λ c κs. tt)
     (λ c κs. tt)
@@ -22,4 +21,4 @@ whole_answer_spec =
       c.before.before.read_count-reads.ensures,
       c.before.before.before.is_busy-busy.ensures,
       c.before.before.before.before.progress-progress.ensures,
-    ) (ready _ _ _ t.before.before.ready_with-ready.ensures (sym t.before.accepts.ensures ∙ not-false _ t.if-not-accepts.false))))
+    ) (ready _ _ _ t.before.before.ready_with-ready.ensures (sym t.before.accepts.ensures ∙ t.if-not-accepts.false))))
