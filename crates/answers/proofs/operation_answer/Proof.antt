@@ -1,6 +1,6 @@
 -- `answers::operation_answer` meets its contract. Assumes nothing.
 use mathlib.Core.Path.{◌≡◌, refl, sym, ◌∙◌}
-use mathlib.Core.Bool.{false, not}
+use mathlib.Core.Bool.{true, false, not}
 use borrow.Author.Tests.{not-false}
 use lib.ListN.{get_or}
 use Rattle.model.specs.Checks.{malformed, out_of_range, operation_answer}
@@ -12,8 +12,8 @@ use Rattle.answers.proofs.operation_answer.Statement.{statement}
 use Rattle.answers.proofs.operation_answer.Tie as tie
 
 -- What passed check 5 is well formed.
-formed : (d : tie.After-accepts) → not d.accepts.result ≡ false → malformed d.before.before.before.args.o ≡ false
-formed d h = check_passed _ Malformed refl (rw d.before.form_answer-form.ensures at (sym d.accepts.ensures ∙ not-false _ h))
+formed : (d : tie.After-accepts) → d.accepts.result ≡ true → malformed d.before.before.before.args.o ≡ false
+formed d h = check_passed _ Malformed refl (rw d.before.form_answer-form.ensures at (sym d.accepts.ensures ∙ h))
 
 -- What the test for check 7 answered.
 outside : (d : tie.After-out_of_range) →

@@ -28,10 +28,10 @@ arranged true false a e n = and-false (a && e)
 read_asked : (s : Setup) (q : Queue) (o : Operation) (moved readable : ℕ)
     → work_fits s q (Read o moved readable)
     ≡ ((is_read o && ((accepts (operation_answer s o) || is_denied (operation_answer s o)) && eqb readable (readable_words s o)))
-    && (ltb moved (total_words s.pages-d o) && is_empty q))
+    && (ltb moved (total_words s.pages o) && is_empty q))
 unfolding work_fits
 read_asked s q o moved readable =
-    sym (arranged (is_read o) (ltb moved (total_words s.pages-d o)) (accepts (operation_answer s o) || is_denied (operation_answer s o)) (eqb readable (readable_words s o)) (is_empty q))
+    sym (arranged (is_read o) (ltb moved (total_words s.pages o)) (accepts (operation_answer s o) || is_denied (operation_answer s o)) (eqb readable (readable_words s o)) (is_empty q))
 
 returns : tie.Need-returns-in-Read
 unfolding stands_for
@@ -54,10 +54,10 @@ regrouped true false a p = and-false a
 
 program_asked : (s : Setup) (q : Queue) (o : Operation) (moved : ℕ)
     → work_fits s q (Program o moved)
-    ≡ ((is_program o && accepts (operation_answer s o)) && (ltb moved (total_words s.pages-d o) && leb (moved + q.len) o.count))
+    ≡ ((is_program o && accepts (operation_answer s o)) && (ltb moved (total_words s.pages o) && leb (moved + q.len) o.count))
 unfolding work_fits
 program_asked s q o moved =
-    sym (regrouped (is_program o) (ltb moved (total_words s.pages-d o)) (accepts (operation_answer s o)) (leb (moved + q.len) o.count))
+    sym (regrouped (is_program o) (ltb moved (total_words s.pages o)) (accepts (operation_answer s o)) (leb (moved + q.len) o.count))
 
 returns_2 : tie.Need-returns-in-Program
 unfolding stands_for
@@ -67,7 +67,7 @@ returns_2 c =
       c.pushed_fits-pushed.ensures,
       c.before.program_fits-fits.ensures,
       c.before.before.total_words-in-Program.ensures,
-      m.in-Program.is,
+      m.program_count-queued.is,
       m.before.before.program_count-queued.ensures,
       m.before.before.before.pages-d.ensures,
       program_asked,
