@@ -36,13 +36,12 @@ read_asked s q o moved readable =
 returns : tie.Need-returns-in-Read
 unfolding stands_for
 returns c =
-    let m = c.before.before.before in
     rw (
       c.read_fits-fits.ensures,
-      c.before.total_words.ensures,
-      m.in-Read.is,
-      m.before.before.program_count-queued.ensures,
-      m.before.before.before.pages-d.ensures,
+      c.total_words.ensures,
+      c.in-Read.is,
+      c.program_count-queued.ensures,
+      c.pages-d.ensures,
       read_asked,
     )
 
@@ -62,14 +61,13 @@ program_asked s q o moved =
 returns_2 : tie.Need-returns-in-Program
 unfolding stands_for
 returns_2 c =
-    let m = c.before.before.before.before in
     rw (
       c.pushed_fits-pushed.ensures,
-      c.before.program_fits-fits.ensures,
-      c.before.before.total_words-in-Program.ensures,
-      m.program_count-queued.is,
-      m.before.before.program_count-queued.ensures,
-      m.before.before.before.pages-d.ensures,
+      c.program_fits-fits.ensures,
+      c.total_words-in-Program.ensures,
+      c.in-Program.is,
+      c.program_count-queued.ensures,
+      c.pages-d.ensures,
       program_asked,
     )
 
@@ -97,13 +95,13 @@ work_fits_spec =
     (λ c κs. tt)
     returns
     returns_2
-    (λ c. let m = c.before.before.before.before.before.before in rw (
+    (λ c. rw (
       c.accepts-accepted.ensures,
-      c.before.operation_answer.ensures,
-      c.before.before.total_words-in-Erase.ensures,
-      c.before.before.before.is_bank_erase-bank.ensures,
-      c.before.before.before.before.is_page_erase-page.ensures,
-      m.in-Erase.is,
-      m.before.before.program_count-queued.ensures,
-      m.before.before.before.pages-d.ensures,
+      c.operation_answer.ensures,
+      c.total_words-in-Erase.ensures,
+      c.is_bank_erase-bank.ensures,
+      c.is_page_erase-page.ensures,
+      c.in-Erase.is,
+      c.program_count-queued.ensures,
+      c.pages-d.ensures,
     )))
