@@ -102,11 +102,11 @@ pub +block_entry_spec : {M : Type 1} → statement M
     (λ c.
     let a = c.args in
     let e = c.in_default.is in
-    e ∙ entry_bad a.s.now a.at a.next a.tag a.depth _ c.if-tag-eq-REPEAT.true c.if-depth-lt-MAX_DEPTH.true (sym e ∙ c.number_to-count.ensures))
+    e ∙ entry_bad a.s.now a.at a.next a.tag a.depth _ c.if-tag-eq-REPEAT.true (omega arith) (sym e ∙ c.number_to-count.ensures))
     (λ c.
     let a = c.args in
     let e = sym c.in-Number.is ∙ c.number_to-count.ensures in
-    entry_zero a.s.now a.at a.next a.tag a.depth _ _ c.if-tag-eq-REPEAT.true c.if-depth-lt-MAX_DEPTH.true e c.if-value-eq0.true)
+    entry_zero a.s.now a.at a.next a.tag a.depth _ _ c.if-tag-eq-REPEAT.true (omega arith) e c.if-value-eq0.true)
     (λ c. omega arith)
     (λ c κs.
     let a = c.args in
@@ -117,6 +117,6 @@ pub +block_entry_spec : {M : Type 1} → statement M
     (λ c.
     let a = c.args in
     let e = sym c.in-Number.is ∙ c.number_to-count.ensures in
-    c.times.ensures ∙ ap (times_of _) c.block.ensures ∙ entry_times a.s.now a.at a.next a.tag a.depth _ _ c.if-tag-eq-REPEAT.true c.if-depth-lt-MAX_DEPTH.true e c.if-value-eq0.false)
-    (λ c. let a = c.args in entry_deep a.s.now a.at a.next a.tag a.depth c.if-tag-eq-REPEAT.true c.if-depth-lt-MAX_DEPTH.false)
+    c.times.ensures ∙ ap (times_of _) c.block.ensures ∙ entry_times a.s.now a.at a.next a.tag a.depth _ _ c.if-tag-eq-REPEAT.true (omega arith) e c.if-value-eq0.false)
+    (λ c. let a = c.args in entry_deep a.s.now a.at a.next a.tag a.depth c.if-tag-eq-REPEAT.true (omega arith))
     (λ c. let a = c.args in entry_none a.s.now a.at a.next a.tag a.depth c.if-tag-eq-OPERATION.false c.if-tag-eq-RIGHTS.false c.if-tag-eq-REPEAT.false))
