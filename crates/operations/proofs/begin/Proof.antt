@@ -14,7 +14,7 @@ pub begin_spec : {M : Type 1} → statement M
 begin_spec =
     tie.close (tie.spec
     (λ c κs. tt)
-    (λ c κs. (c.requires, going c.before))
+    (λ c κs. (c.requires, going c))
     (λ c κs. tt)
-    (λ c. simp (c.put_running.ensures, c.readable-words.ensures) (begin_starts c.requires (going c.before.before.before.before)))
+    (λ c. simp (c.put_running.ensures, c.readable-words.ensures) (begin_starts c.requires (going c.before.before.before)))
     (λ c. begin_stays c.requires (sym c.starts.ensures ∙ c.if-starts.false)))

@@ -12,23 +12,19 @@ pop_spec =
     (λ c. pop_invalid c.args.s.now (sym c.valid.ensures ∙ c.if-not-valid.true))
     (λ c κs. tt)
     (λ c.
-    let v = c.before.before.before.before in
-    pop_none v.args.s.now (sym v.valid.ensures ∙ c.if-not-valid.false)
+    pop_none c.args.s.now (sym c.valid.ensures ∙ c.if-not-valid.false)
     (rw c.read_count.ensures at (eq-eqb _ _ c.if-read_count-eq0.true)))
     (λ c κs. tt)
     (λ c κs.
-    let v = c.before.before.before.before.before.before in
     rw c.reads-reads.ensures
-    (reads_some v.args.s.now (sym v.valid.ensures ∙ c.if-not-valid.false)
+    (reads_some c.args.s.now (sym c.valid.ensures ∙ c.if-not-valid.false)
     (rw c.read_count.ensures at (ne_eqb _ _ c.if-read_count-eq0.false))))
     (λ c κs.
-    let v = c.before.before.before.before.before.before.before.before in
     rw c.reads-reads.ensures
-    (reads_some v.args.s.now (sym v.valid.ensures ∙ c.if-not-valid.false)
+    (reads_some c.args.s.now (sym c.valid.ensures ∙ c.if-not-valid.false)
     (rw c.read_count.ensures at (ne_eqb _ _ c.if-read_count-eq0.false))))
     (λ c κs. tt)
     (λ c.
-    let v = c.before.before.before.before.before.before.before.before.before.before in
     rw (c.put_reads.ensures, c.pop.ensures, c.oldest-word.ensures, c.reads-reads.ensures)
-    (pop_takes v.args.s.now (sym v.valid.ensures ∙ c.if-not-valid.false)
+    (pop_takes c.args.s.now (sym c.valid.ensures ∙ c.if-not-valid.false)
     (rw c.read_count.ensures at (ne_eqb _ _ c.if-read_count-eq0.false)))))

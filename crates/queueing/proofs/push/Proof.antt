@@ -31,7 +31,7 @@ push_spec =
     push_other c.args.s.now c.args.word c.ready-ready.result
     c.ready-ready.ensures
     (sym c.accepts.ensures ∙ c.if-not-accepts.false)
-    c.in-Running.work (sym c.progress-progress.ensures ∙ c.in-Running.is) c.in_default-work.is)
+    c.in-Running.work (sym c.progress-progress.ensures ∙ c.in-Running.is) c.in_default-work.not-Program)
     (λ c κs. tt)
     (λ c κs. tt)
     (λ c.
