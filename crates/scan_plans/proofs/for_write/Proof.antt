@@ -3,6 +3,7 @@ use mathlib.Core.Path.{◌≡◌, sym, ap, ◌∙◌}
 use mathlib.Core.Bool.{true, false}
 use Prim.Native.Nat.{◌+◌, ◌≤◌, ◌<◌}
 use native.Mathlib.Omega.{arith}
+use borrow.Author.Tests.{not-true, not-false}
 use borrow.Author.Rules.{rules}
 use lib.ListN.{length}
 use Rattle.scan_queue.specs.Slots.{slots_from}
@@ -40,7 +41,7 @@ returns_5 c =
     let low : s.result.highest < 268435455 = f.before.if-highest-ge-MAX_SERIAL.false in
     let seen = t.survey_page-low.ensures ∙ ap (surveyed a.image.now (slots_from 16 a.a)) t.before.none.ensures in
     record {
-      is = sym (to_lower a.image.now a.a a.b a.bytes.now s.result s.ensures some most low f.if-s.false t.survey_page-low.result seen c.if-not-low.true);
+      is = sym (to_lower a.image.now a.a a.b a.bytes.now s.result s.ensures some most low f.if-s.false t.survey_page-low.result seen (not-true _ c.if-not-low.true));
       inside = (omega (arith, g.apart, g.inside), omega arith, most);
     }
 
@@ -61,7 +62,7 @@ high_looked v =
     let low : s.result.highest < 268435455 = f.before.if-highest-ge-MAX_SERIAL.false in
     let seen = t.survey_page-low.ensures ∙ ap (surveyed a.image.now (slots_from 16 a.a)) t.before.none.ensures in
     let seen_high = v.survey_page-high.ensures ∙ ap (surveyed a.image.now (slots_from 16 a.b)) v.before.none-2.ensures in
-    let busy = e.if-not-low.false in (
+    let busy = not-false _ e.if-not-low.false in (
       to_higher a.image.now a.a a.b a.bytes.now s.result s.ensures some most low f.if-s.false _ seen busy _ seen_high,
       no_page a.image.now a.a a.b a.bytes.now s.result s.ensures some most low f.if-s.false _ seen busy _ seen_high,
     )
@@ -72,12 +73,12 @@ returns_6 c =
     let f = v.before.before.before.before.before.before in
     let g = f.before.before.before.before.before.before.before.requires in
     record {
-      is = sym ((high_looked v).0 c.if-not-high.true);
+      is = sym ((high_looked v).0 (not-true _ c.if-not-high.true));
       inside = (omega (arith, g.inside), omega (arith, f.before.if-highest-ge-MAX_SERIAL.false), f.before.before.before.if-n-gt-WIDE_MAX_LENGTH.false);
     }
 
 returns_7 : tie.Need-returns
-returns_7 c = record { is = sym ((high_looked c.before.before).1 c.if-not-high.false); inside = tt }
+returns_7 c = record { is = sym ((high_looked c.before.before).1 (not-false _ c.if-not-high.false)); inside = tt }
 
 pub for_write_spec : {M : Type 1} → statement M
 for_write_spec =
