@@ -9,6 +9,6 @@ reset_spec =
     tie.close (tie.spec
     (λ c κs. tt)
     (λ c κs. tt)
-    (λ c. rw c.number.ensures (reset_refused _ _ (sym c.before.before.pages_fit.ensures ∙ c.before.if-not-pages_fit.true)))
+    (λ c. rw c.number.ensures (reset_refused _ _ (sym c.pages_fit.ensures ∙ c.if-not-pages_fit.true)))
     (λ c κs. tt)
-    (λ c. rw c.clear.ensures (reset_accepted _ _ (sym c.before.before.before.pages_fit.ensures ∙ c.before.before.if-not-pages_fit.false))))
+    (λ c. rw c.clear.ensures (reset_accepted _ _ (sym c.pages_fit.ensures ∙ c.if-not-pages_fit.false))))
