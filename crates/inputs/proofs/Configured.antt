@@ -20,7 +20,7 @@ use Rattle.model.proofs.Accepting.{setting_passed}
 use Rattle.registers.proofs.Kept.{valid_encoded}
 use Rattle.registers.proofs.Written.{put_inputs_lem, put_errors_lem}
 use Rattle.validity.proofs.Taken.{taken_stands}
-use borrow.Author.Tests.{not-true, not-false, eqb-true}
+use borrow.Author.Tests.{not-false, eqb-true}
 
 -- ---- checks 1, 4 and 13
 
@@ -38,9 +38,9 @@ answer_valid s fits h =
 -- What is told and left, where the code tests the answer `a`: refused, the registers are as they were; accepted, the part fits
 -- and they are `t`.
 pub record Set (s : List ℕ) (fits : Bool) (a : Answer) (t : List ℕ) (left : Left ℕ) : Type 0 where
-  pub refused : {b : Bool} {n : ℕ} → n ≡ number_of a → b ≡ accepts a → not b ≡ true → record { told = n; registers = s } ≡ left
-  pub passed : {b : Bool} → b ≡ accepts a → not b ≡ false → fits ≡ true
-  pub accepted : {b : Bool} {u : List ℕ} → u ≡ t → b ≡ accepts a → not b ≡ false → record { told = 0; registers = u } ≡ left
+  pub refused : {b : Bool} {n : ℕ} → n ≡ number_of a → b ≡ accepts a → b ≡ false → record { told = n; registers = s } ≡ left
+  pub passed : {b : Bool} → b ≡ accepts a → b ≡ true → fits ≡ true
+  pub accepted : {b : Bool} {u : List ℕ} → u ≡ t → b ≡ accepts a → b ≡ true → record { told = 0; registers = u } ≡ left
 
 -- Whether the part fits is asked of what the registers stand for: it matters in a valid state only.
 module _ (s : List ℕ) (next : Controller → Controller) (fits : Controller → Bool) (a : Answer) (told : a ≡ setting_answer (decode s) (fits (stands_for s))) where
@@ -76,9 +76,9 @@ module _ (s : List ℕ) (next : Controller → Controller) (fits : Controller �
 
   pub setting : (t : List ℕ) → (fits (stands_for s) ≡ true → encoded s ≡ true → put s (next (stands_for s)) ≡ t) → Set s (fits (stands_for s)) a t asked
   setting t written = record {
-    refused = λ n b l. rw n (left_refused (sym b ∙ not-true _ l));
-    passed = λ b l. fits_taken (sym b ∙ not-false _ l);
-    accepted = λ u b l. rw u (left_accepted t written (sym b ∙ not-false _ l));
+    refused = λ n b l. rw n (left_refused (sym b ∙ l));
+    passed = λ b l. fits_taken (sym b ∙ l);
+    accepted = λ u b l. rw u (left_accepted t written (sym b ∙ l));
   }
 
 -- ---- the inputs

@@ -2,6 +2,7 @@
 use Prim.Native.Nat.{ℕ, ◌+◌, ◌<◌}
 use mathlib.Core.Path.{◌≡◌, refl, ap, sym, subst, ◌∙◌}
 use mathlib.Core.Bool.{true, false}
+use mathlib.Core.Logic.{inl, inr}
 use mathlib.Core.List.{List, [], ◌∷◌}
 use lib.Dec.{leb}
 use borrow.Author.Tests.{leb-false}
@@ -15,7 +16,7 @@ use Rattle.model.specs.declared.Answer.{Answer}
 use Rattle.model.specs.declared.Answer.TheVariants.{QueueFull, Unexpected}
 use Rattle.model.specs.declared.Operation.{Operation}
 use Rattle.model.specs.declared.Work.{Work}
-use Rattle.model.specs.declared.Work.TheVariants.{Program}
+use Rattle.model.specs.declared.Work.TheVariants.{Read, Program, Erase}
 use Rattle.model.specs.declared.Progress.TheVariants.{Idle, Running}
 use Rattle.model.specs.declared.Outcome.{Outcome}
 use Rattle.model.specs.declared.Controller.{Controller}
@@ -28,6 +29,12 @@ use Rattle.registers.proofs.Kept.{valid_encoded}
 use Rattle.registers.proofs.Written.{put_programs}
 use Rattle.calls.specs.Calls.{Left, outcome_left, push_in}
 use Rattle.validity.proofs.Taken.{taken_stands}
+
+-- What is no program is a read or an erase.
+other : (v : Work) → ((o : Operation) (k : ℕ) → v ≡ Program o k → ⊥) → OneOf (0 ∷ 2 ∷ []) (tag_of the_type v)
+other (Read o k r) t = inl refl
+other (Program o k) t = absurd (t o k refl)
+other (Erase o k) t = inr refl
 
 module _ (s : List ℕ) (w : ℕ) (answer : Answer) (asked : answer ≡ ready_answer (valid (decode s)) (decode s).phase) where
   -- Checks 1, 2 and 3 refuse,
@@ -61,10 +68,10 @@ module _ (s : List ℕ) (w : ℕ) (answer : Answer) (asked : answer ≡ ready_an
     push_idle e = by_push (push_refused (stands_for s) w Unexpected ready (nothing_running (stands_for s) e) refl)
 
     -- or no program,
-    pub push_other : (v : Work) → progress_at s ≡ Running v → OneOf (0 ∷ 2 ∷ []) (tag_of the_type v) → record { told = 12; registers = s } ≡ push_in s w
+    pub push_other : (v : Work) → progress_at s ≡ Running v → ((o : Operation) (k : ℕ) → v ≡ Program o k → ⊥) → record { told = 12; registers = s } ≡ push_in s w
     unfolding stands_for
     push_other v e t =
-        by_push (push_refused (stands_for s) w Unexpected ready (ap (push_answer (stands_for s)) e ∙ no_program (stands_for s) v t) refl)
+        by_push (push_refused (stands_for s) w Unexpected ready (ap (push_answer (stands_for s)) e ∙ no_program (stands_for s) v (other v t)) refl)
 
     -- or a program.
     module _ (o : Operation) (k : ℕ) (e : progress_at s ≡ Running (Program o k)) where

@@ -11,7 +11,7 @@ use Rattle.model.proofs.Bool.{which}
 use borrow.Author.Tests.{eqb-false}
 use Rattle.scan_queue.specs.Payload.{Scan, Payload, Malformed, Holds, payload_of, bytes_of}
 use Rattle.scan_queue.specs.Slots.{Pages, sealed_of, slot_at, words_at, blank, Nothing, This, waits, places, Entry, queue}
-use Rattle.slots.specs.Code.{payloadBytes, toScan, HeldAs}
+use Rattle.slots.specs.Code.{payload_bytes, to_scan, HeldAs}
 use Rattle.slots.specs.declared.Found.{Found}
 use Rattle.slots.specs.declared.Body.{Body}
 use Rattle.slots.specs.declared.Body.TheVariants.{Broken, Whole}
@@ -39,8 +39,8 @@ sealed_holds mark (Holds t) s h =
     (which (eqb mark 0)))
     (which (eqb mark blank))
 
-waiting_holds : (m : List ℕ) (p : ℕ) (s : Scan) → waits (slot_at m p) ≡ This s → payload_of (payloadBytes m p) ≡ Holds s
-unfolding slot_at payloadBytes
+waiting_holds : (m : List ℕ) (p : ℕ) (s : Scan) → waits (slot_at m p) ≡ This s → payload_of (payload_bytes m p) ≡ Holds s
+unfolding slot_at payload_bytes
 waiting_holds m p s h =
     ⊎_elim
     (λ (e : eqb (get_or m p 0) 0 ≡ true). sealed_holds (get_or m (p + 1) 0) (payload_of (bytes_of (words_at 14 m (p + 2)))) s (rw e at h))
@@ -86,11 +86,11 @@ module _ (m : List ℕ) (a b : ℕ) (g : Pages m a b) (s : Survey) (seen : s ≡
         let o = oldest waiting in
         rw o.at (places_inside m a b o.entry.place (record { apart = g.apart; inside = g.inside }) (head_at o).0)
 
-    holds : (o : Oldest) → payload_of (payloadBytes m s.oldest) ≡ Holds o.entry.scan
+    holds : (o : Oldest) → payload_of (payload_bytes m s.oldest) ≡ Holds o.entry.scan
     holds o =
-        ap (λ (k : ℕ). payload_of (payloadBytes m k)) o.at ∙ waiting_holds m o.entry.place o.entry.scan (head_at o).1
+        ap (λ (k : ℕ). payload_of (payload_bytes m k)) o.at ∙ waiting_holds m o.entry.place o.entry.scan (head_at o).1
 
-    module _ (r : Body) (held : HeldAs (payloadBytes m s.oldest) (payload_of (payloadBytes m s.oldest)) r) where
+    module _ (r : Body) (held : HeldAs (payload_bytes m s.oldest) (payload_of (payload_bytes m s.oldest)) r) where
       -- Its payload is well formed,
       pub never : r ≡ Broken → ⊥
       never e =
@@ -104,11 +104,11 @@ module _ (m : List ℕ) (a b : ℕ) (g : Pages m a b) (s : Survey) (seen : s ≡
         where
           go : Oldest → OldestIs m (take_plan.Takes s.oldest f) (queue m (places a b))
           go o =
-              let whole : HeldAs (payloadBytes m s.oldest) (payload_of (payloadBytes m s.oldest)) (Whole f)
-              = subst (λ (x : Body). HeldAs (payloadBytes m s.oldest) (payload_of (payloadBytes m s.oldest)) x) e held in
-              let z : Holds (toScan (payloadBytes m s.oldest) f) ≡ Holds o.entry.scan = whole.is ∙ holds o in
-              let same : toScan (payloadBytes m s.oldest) f ≡ o.entry.scan = cc in
-              let long : length (payloadBytes m s.oldest) ≡ 56 = payload_long m s.oldest in
+              let whole : HeldAs (payload_bytes m s.oldest) (payload_of (payload_bytes m s.oldest)) (Whole f)
+              = subst (λ (x : Body). HeldAs (payload_bytes m s.oldest) (payload_of (payload_bytes m s.oldest)) x) e held in
+              let z : Holds (to_scan (payload_bytes m s.oldest) f) ≡ Holds o.entry.scan = whole.is ∙ holds o in
+              let same : to_scan (payload_bytes m s.oldest) f ≡ o.entry.scan = cc in
+              let long : length (payload_bytes m s.oldest) ≡ 56 = payload_long m s.oldest in
               rw o.is (record {
                 place = o.at;
                 scan = same;

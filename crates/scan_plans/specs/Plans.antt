@@ -4,7 +4,7 @@ use Rattle.slots.specs.declared.Found.{Found}
 use Rattle.scan_queue.specs.Payload.{Scan, max_length}
 use Rattle.scan_queue.specs.Slots.{Entry}
 use Rattle.scan_queue.specs.Decisions.{Decision, Refused, Puts, Erases, write}
-use Rattle.slots.specs.Code.{payloadBytes, toScan}
+use Rattle.slots.specs.Code.{payload_bytes, to_scan}
 use Rattle.scan_plans.specs.declared.WritePlan.{WritePlan}
 use Rattle.scan_plans.specs.declared.WritePlan.TheVariants as write_plan
 use Rattle.scan_plans.specs.declared.TakePlan.{TakePlan}
@@ -38,7 +38,7 @@ pub record Decided (m : List ℕ) (a b : ℕ) (bytes : List ℕ) (r : WritePlan)
 -- The oldest waiting scan is the one found in the slot at p, whose bytes lie in it.
 pub record HandsOut (m : List ℕ) (p : ℕ) (f : Found) (e : Entry) : Type 0 where
   pub place : p ≡ e.place
-  pub scan : toScan (payloadBytes m p) f ≡ e.scan
+  pub scan : to_scan (payload_bytes m p) f ≡ e.scan
   pub inside : p + 16 ≤ length m
   pub fits : f.count ≤ 48
   pub lies : f.start + f.count ≤ 56

@@ -4,7 +4,7 @@
 ghost use Rattle.std.specs.Prelude.{◌≡◌, [], ◌∷◌, ◌+◌, ◌≤◌, ◌<◌, length, take, drop};
 ghost use Rattle.model.specs.State.{flash};
 ghost use Rattle.scan_queue.specs.Decisions.{refusal_of};
-ghost use Rattle.slots.specs.Code.{payloadBytes};
+ghost use Rattle.slots.specs.Code.{payload_bytes};
 ghost use Rattle.scan_plans.specs.Plans.{scan_with, decision_of, Inside};
 ghost use Rattle.scans.specs.Jobs.{erase_job, fill_job, zero_job, jobs, jobs_in};
 ghost use Rattle.scans.specs.Scans.{write_told, write_in, no_scan, scan_told, mark_told, take_in};
@@ -213,7 +213,7 @@ fn hand_out(
     steps: u32,
 ) -> ToldScan
     requires { (p + 16 ≤ length image.old) × (length image.old ≤ 137728) × (found.count ≤ 48) × (found.start + found.count ≤ 56) }
-    ensures { record { told = result; registers = s.new; flash = flash image.new } ≡ mark_told (scan_told found.serial (take found.count (drop found.start (payloadBytes image.old p)))) (jobs_in steps s.old (flash image.old) (zero_job d (p + 1) ∷ [])) }
+    ensures { record { told = result; registers = s.new; flash = flash image.new } ≡ mark_told (scan_told found.serial (take found.count (drop found.start (payload_bytes image.old p)))) (jobs_in steps s.old (flash image.old) (zero_job d (p + 1) ∷ [])) }
 {
     let payload = slots::payload_bytes(image, p);
     let start = found.start;

@@ -13,7 +13,7 @@ use Rattle.numbers.specs.Number.{number_to, then_number, value_of}
 use Rattle.numbers.proofs.Laws.{Goes, number_to_goes, then_goes, then_small}
 use Rattle.scan_queue.specs.Payload.{max_serial, max_length, all, Payload, serial_in, length_in, body_of, payload_of}
 use Rattle.scan_queue.specs.Slots.{Slot, sealed_of, slot_at, words_at, blank}
-use Rattle.slots.specs.Code.{payloadBytes, toScan, HeldAs}
+use Rattle.slots.specs.Code.{payload_bytes, to_scan, HeldAs}
 use Rattle.slots.specs.declared.Found.{Found}
 use Rattle.slots.specs.declared.Body.{Body}
 use Rattle.slots.specs.declared.Body.TheVariants.{Broken, Whole}
@@ -71,19 +71,19 @@ module _ (l : List ℕ) (first second : Parsed) (read : first ≡ number_to l ma
 -- ---- slots
 
 module _ (m : List ℕ) (p : ℕ) where
-  pub slot_sealed : get_or m p 0 ≡ 0 → slot_at m p ≡ sealed_of (get_or m (p + 1) 0) (payload_of (payloadBytes m p))
-  unfolding slot_at payloadBytes
+  pub slot_sealed : get_or m p 0 ≡ 0 → slot_at m p ≡ sealed_of (get_or m (p + 1) 0) (payload_of (payload_bytes m p))
+  unfolding slot_at payload_bytes
   slot_sealed e = rw (eq-eqb (get_or m p 0) 0 e) refl
 
   pub slot_open : (get_or m p 0 ≡ 0 → ⊥) → slot_at m p ≡ cond (all blank (words_at 16 m p)) Slot.Unused Slot.Dead
   unfolding slot_at
   slot_open e = rw (ne_eqb (get_or m p 0) 0 e) refl
 
-  module _ (seal : get_or m p 0 ≡ 0) (r : Body) (held : HeldAs (payloadBytes m p) (payload_of (payloadBytes m p)) r) where
+  module _ (seal : get_or m p 0 ≡ 0) (r : Body) (held : HeldAs (payload_bytes m p) (payload_of (payload_bytes m p)) r) where
     pub slot_broken : r ≡ Broken → slot_at m p ≡ Slot.Dead
     slot_broken e = slot_sealed seal ∙ rw (← held.is, e) refl
 
     pub slot_whole : (f : Found) → r ≡ Whole f
-        → slot_at m p ≡ cond (eqb (get_or m (p + 1) 0) blank) (Slot.Waiting (toScan (payloadBytes m p) f))
-        (cond (eqb (get_or m (p + 1) 0) 0) (Slot.Taken (toScan (payloadBytes m p) f)) (Slot.Odd (toScan (payloadBytes m p) f)))
+        → slot_at m p ≡ cond (eqb (get_or m (p + 1) 0) blank) (Slot.Waiting (to_scan (payload_bytes m p) f))
+        (cond (eqb (get_or m (p + 1) 0) 0) (Slot.Taken (to_scan (payload_bytes m p) f)) (Slot.Odd (to_scan (payload_bytes m p) f)))
     slot_whole f e = slot_sealed seal ∙ rw (← held.is, e) refl

@@ -13,9 +13,9 @@ use Rattle.model.proofs.Bool.{which}
 use borrow.Author.Tests.{eq-eqb, ne_eqb}
 use Rattle.scan_queue.specs.Payload.{bytes_of, all}
 use Rattle.scan_queue.specs.Slots.{words_at}
-use Rattle.slots.specs.Code.{byteIn, payloadBytes}
+use Rattle.slots.specs.Code.{byte_in, payload_bytes}
 
-pub byte_small : (w k : ℕ) → byteIn w k < 256
+pub byte_small : (w k : ℕ) → byte_in w k < 256
 byte_small w k =
     ⊎_elim (λ (e : eqb k 0 ≡ true). rw e (omega arith))
     (λ (e : eqb k 0 ≡ false). rw e
@@ -25,7 +25,7 @@ byte_small w k =
     (which (eqb k 1))))
     (which (eqb k 0))
 
-bytes_at : (ws : List ℕ) (i : ℕ) → i < 4 * length ws → get_or (bytes_of ws) i 0 ≡ byteIn (get_or ws (i / 4) 0) (i % 4)
+bytes_at : (ws : List ℕ) (i : ℕ) → i < 4 * length ws → get_or (bytes_of ws) i 0 ≡ byte_in (get_or ws (i / 4) 0) (i % 4)
 unfolding bytes_of
 bytes_at [] i h = absurd (omega arith)
 bytes_at (w ∷ ws) zero h = refl
@@ -53,26 +53,26 @@ unfolding bytes_of
 bytes_long [] = refl
 bytes_long (w ∷ ws) = omega (arith, bytes_long ws)
 
-pub payload_long : (m : List ℕ) (p : ℕ) → length (payloadBytes m p) ≡ 56
-unfolding payloadBytes
+pub payload_long : (m : List ℕ) (p : ℕ) → length (payload_bytes m p) ≡ 56
+unfolding payload_bytes
 payload_long m p = bytes_long (words_at 14 m (p + 2)) ∙ rw (words_long 14 m (p + 2)) refl
 
-pub payload_byte : (m : List ℕ) (p i : ℕ) → i < 56 → byteIn (get_or m (p + 2 + i / 4) 0) (i % 4) ≡ get_or (payloadBytes m p) i 0
-unfolding payloadBytes
+pub payload_byte : (m : List ℕ) (p i : ℕ) → i < 56 → byte_in (get_or m (p + 2 + i / 4) 0) (i % 4) ≡ get_or (payload_bytes m p) i 0
+unfolding payload_bytes
 payload_byte m p i h =
     let l : i < 4 * length (words_at 14 m (p + 2)) = rw (words_long 14 m (p + 2)) (omega arith) in
     let q : i / 4 < 14 = omega arith in
-    sym (bytes_at (words_at 14 m (p + 2)) i l ∙ ap (λ (w : ℕ). byteIn w (i % 4)) (words_at_lem 14 m (p + 2) (i / 4) q))
+    sym (bytes_at (words_at 14 m (p + 2)) i l ∙ ap (λ (w : ℕ). byte_in w (i % 4)) (words_at_lem 14 m (p + 2) (i / 4) q))
 
 -- ---- a list, from an element on
 
-pub from_on : (m : List ℕ) (p i : ℕ) → i < 56 → drop i (payloadBytes m p) ≡ get_or (payloadBytes m p) i 0 ∷ drop (i + 1) (payloadBytes m p)
+pub from_on : (m : List ℕ) (p i : ℕ) → i < 56 → drop i (payload_bytes m p) ≡ get_or (payload_bytes m p) i 0 ∷ drop (i + 1) (payload_bytes m p)
 from_on m p i h =
-    let l : i < length (payloadBytes m p) = rw (payload_long m p) h in
-    rw add-one (drop-cons (payloadBytes m p) i 0 l)
+    let l : i < length (payload_bytes m p) = rw (payload_long m p) h in
+    rw add-one (drop-cons (payload_bytes m p) i 0 l)
 
-pub at_end : (m : List ℕ) (p i : ℕ) → 56 ≤ i → drop i (payloadBytes m p) ≡ []
-at_end m p i h = drop_of_length-le (payloadBytes m p) {i = i} (rw (payload_long m p) h)
+pub at_end : (m : List ℕ) (p i : ℕ) → 56 ≤ i → drop i (payload_bytes m p) ≡ []
+at_end m p i h = drop_of_length-le (payload_bytes m p) {i = i} (rw (payload_long m p) h)
 
 -- ---- all of a list from an element on
 
@@ -94,7 +94,7 @@ pub record Copied (w l : List ℕ) (i : ℕ) : Type 0 where
   pub size : length w ≡ length l
   pub front : take i w ≡ take i l
 
-pub copied_none : (m : List ℕ) (p : ℕ) → Copied (replicate 56 0) (payloadBytes m p) 0
+pub copied_none : (m : List ℕ) (p : ℕ) → Copied (replicate 56 0) (payload_bytes m p) 0
 copied_none m p = record { size = sym (payload_long m p); front = refl }
 
 pub copied_turn : (w l : List ℕ) (i v : ℕ) → Copied w l i → i < length l → v ≡ get_or l i 0 → Copied (set w i v) l (i + 1)

@@ -6,7 +6,7 @@ ghost use Rattle.std.specs.Prelude.{◌≡◌, ◌+◌, ◌≤◌, ◌<◌, leng
 ghost use Rattle.numbers.specs.declared.Parsed.TheVariants as parsed;
 ghost use Rattle.scan_queue.specs.Payload.{all, body_of, payload_of};
 ghost use Rattle.scan_queue.specs.Slots.{slot_at, blank, words_at};
-ghost use Rattle.slots.specs.Code.{byteIn, payloadBytes, HeldAs, toSlot};
+ghost use Rattle.slots.specs.Code.{byte_in, payload_bytes, HeldAs, to_slot};
 
 use numbers::Parsed;
 use scan_queue::{MAX_LENGTH, MAX_SERIAL, PAYLOAD_BYTES};
@@ -41,7 +41,7 @@ pub enum Class {
 
 // Byte `k` of a word, lowest first.
 fn byte_in(w: u32, k: usize) -> u32
-    ensures { result ≡ byteIn w k }
+    ensures { result ≡ byte_in w k }
 {
     if k == 0 {
         return w % 256;
@@ -58,7 +58,7 @@ fn byte_in(w: u32, k: usize) -> u32
 // Byte `i` of words 2 to 15 of the slot at word `p`.
 fn byte_at(image: &[u32], p: usize, i: usize) -> u32
     requires { (p + 16 ≤ length image.now) × (i < 56) }
-    ensures { (result ≡ get_or (payloadBytes image.now p) i 0) × (result < 256) }
+    ensures { (result ≡ get_or (payload_bytes image.now p) i 0) × (result < 256) }
 {
     let w = image[p + 2 + i / 4];
     byte_in(w, i % 4)
@@ -67,7 +67,7 @@ fn byte_at(image: &[u32], p: usize, i: usize) -> u32
 // All 56 of them.
 pub fn payload_bytes(image: &[u32], p: usize) -> Payload
     requires { p + 16 ≤ length image.now }
-    ensures { result ≡ payloadBytes image.now p }
+    ensures { result ≡ payload_bytes image.now p }
 {
     let mut bytes = [0u8; PAYLOAD_BYTES];
     let mut i: usize = 0;
@@ -146,7 +146,7 @@ fn blank_words(image: &[u32], p: usize) -> bool
 // What words 2 to 15 of the slot at word `p` hold.
 pub fn payload_at(image: &[u32], p: usize) -> Body
     requires { p + 16 ≤ length image.now }
-    ensures { HeldAs (payloadBytes image.now p) (payload_of (payloadBytes image.now p)) result }
+    ensures { HeldAs (payload_bytes image.now p) (payload_of (payload_bytes image.now p)) result }
 {
     let bytes = payload_bytes(image, p);
     payload_in(&bytes)
@@ -155,7 +155,7 @@ pub fn payload_at(image: &[u32], p: usize) -> Body
 // What the slot at word `p` is.
 pub fn slot_at(image: &[u32], p: usize) -> Class
     requires { p + 16 ≤ length image.now }
-    ensures { toSlot (payloadBytes image.now p) result ≡ slot_at image.now p }
+    ensures { to_slot (payload_bytes image.now p) result ≡ slot_at image.now p }
 {
     if image[p] == 0 {
         let mark = image[p + 1];

@@ -13,7 +13,7 @@ use borrow.Author.Tests.{lt-ltb, le-ltb, ltb-true, ltb-false, leb-true, leb-fals
 use Rattle.scan_queue.specs.Payload.{Scan}
 use Rattle.scan_queue.specs.Slots.{Slot, Unused, Dead, Waiting, Taken, Odd, slot_at, waits, serial_of, is_unused, slots_from, places, Entry, cons, entries, insert, sorted, queue, highest}
 use Rattle.scan_queue.specs.Decisions.{Room, None, At, or_at, first_unused, is_nothing, none_waits}
-use Rattle.slots.specs.Code.{toSlot}
+use Rattle.slots.specs.Code.{to_slot}
 use Rattle.slots.specs.declared.Class as Class
 use Rattle.survey.specs.declared.Survey.{Survey}
 use Rattle.survey.specs.Survey.{nothing, saw, saw_unused, saw_sealed, saw_waiting, surveyed}
@@ -45,7 +45,7 @@ one_seen m q j k s e h =
     rw (e, drop-cons (slots_from 16 q) j 0 l, slots_at 16 q j h)
 
 -- Of a slot only its kind and serial matter.
-pub saw_same : (p : ℕ) (l : List ℕ) (c : Class.Class) (s : Survey) → saw p (toSlot [] c) s ≡ saw p (toSlot l c) s
+pub saw_same : (p : ℕ) (l : List ℕ) (c : Class.Class) (s : Survey) → saw p (to_slot [] c) s ≡ saw p (to_slot l c) s
 saw_same p l Class.TheVariants.Unused s = refl
 saw_same p l Class.TheVariants.Dead s = refl
 saw_same p l (Class.TheVariants.Waiting f) s = refl

@@ -3,7 +3,7 @@
 
 ghost use Rattle.std.specs.Prelude.{◌≡◌, cond, [], ◌+◌, ◌≤◌, ◌<◌, length};
 ghost use Rattle.scan_queue.specs.Slots.{slots_from, places};
-ghost use Rattle.slots.specs.Code.{toSlot};
+ghost use Rattle.slots.specs.Code.{to_slot};
 ghost use Rattle.survey.specs.Survey.{nothing, saw_unused, saw_sealed, saw_waiting, saw, surveyed};
 
 use slots::Class;
@@ -95,7 +95,7 @@ fn saw_waiting(s: Survey, p: usize, n: u32) -> Survey
 
 // The slot at word `p`, of which only its kind and serial matter.
 pub fn saw_class(s: Survey, p: usize, c: Class) -> Survey
-    ensures { result ≡ saw p (toSlot [] c) s }
+    ensures { result ≡ saw p (to_slot [] c) s }
 {
     match c {
         Class::Unused => saw_unused(s, p),

@@ -10,7 +10,7 @@ use Rattle.answers.proofs.error_address.Statement.{statement}
 use Rattle.answers.proofs.error_address.Tie as tie
 
 -- In the branch of a denied read.
-told : (c : tie.Then1) → let a = c.before.before.args in is_denied_read a.o (number_of a.answer) ≡ true
+told : (c : tie.Then-is_denied_read) → let a = c.before.before.args in is_denied_read a.o (number_of a.answer) ≡ true
 told c = sym c.before.is_denied_read.ensures ∙ c.if-is_denied_read.true
 
 pub error_address_spec : {M : Type 1} → statement M

@@ -1,7 +1,7 @@
 -- `answers::operation_answer` meets its contract. Assumes nothing.
 use mathlib.Core.Path.{◌≡◌, refl, sym, ◌∙◌}
-use mathlib.Core.Bool.{false, not}
-use borrow.Author.Tests.{not-true, not-false}
+use mathlib.Core.Bool.{true, false, not}
+use borrow.Author.Tests.{not-false}
 use lib.ListN.{get_or}
 use Rattle.model.specs.Checks.{malformed, out_of_range, operation_answer}
 use Rattle.model.specs.declared.Answer.TheVariants.{Malformed}
@@ -12,11 +12,11 @@ use Rattle.answers.proofs.operation_answer.Statement.{statement}
 use Rattle.answers.proofs.operation_answer.Tie as tie
 
 -- What passed check 5 is well formed.
-formed : (d : tie.After-accepts) → not d.accepts.result ≡ false → malformed d.before.before.before.args.o ≡ false
-formed d h = check_passed _ Malformed refl (rw d.before.form_answer-form.ensures at (sym d.accepts.ensures ∙ not-false _ h))
+formed : (d : tie.After-accepts) → d.accepts.result ≡ true → malformed d.before.before.before.args.o ≡ false
+formed d h = check_passed _ Malformed refl (rw d.before.form_answer-form.ensures at (sym d.accepts.ensures ∙ h))
 
 -- What the test for check 7 answered.
-outside : (d : tie.After-out-of-range) →
+outside : (d : tie.After-out_of_range) →
     let a = d.before.before.before.before.before.args in
     d.out_of_range.result ≡ out_of_range (get_or a.s.now pages_at 0) a.o
 outside d = rw d.before.before.before.before.pages-d.ensures at d.out_of_range.ensures
@@ -49,7 +49,7 @@ operation_answer_spec =
     (λ c κs. tt)
     (λ c κs. tt)
     (λ c κs. tt)
-    (λ c. simp (c.before.before.form_answer-form.ensures, rw c.before.before.form_answer-form.ensures at (sym c.before.accepts.ensures ∙ not-true _ c.if-not-accepts.true)))
+    (λ c. simp (c.before.before.form_answer-form.ensures, rw c.before.before.form_answer-form.ensures at (sym c.before.accepts.ensures ∙ c.if-not-accepts.true)))
     (λ c κs. tt)
     returns_2
     (λ c κs. let r = c.before in formed r.before.before r.before.if-not-accepts.false)

@@ -16,17 +16,16 @@ use Rattle.answers.proofs.program_fits.Statement.{statement}
 use Rattle.answers.proofs.program_fits.Tie as tie
 
 -- What passed the first test is a program, and well formed.
-asked : (d : tie.After-accepts) → not (d.before.before.is_program-program.result && d.accepts-formed.result) ≡ false →
+asked : (d : tie.After-accepts-formed) → (d.before.before.is_program-program.result && d.accepts-formed.result) ≡ true →
     let o = d.before.before.before.args.o in
     (is_program o ≡ true) × (malformed o ≡ false)
 asked d h =
     let p = d.before.before.is_program-program in
     let f = d.accepts-formed in
-    let both = not-false (p.result && f.result) h in
-    (sym p.ensures ∙ and_left p.result f.result both, check_passed _ Malformed refl (rw d.before.form_answer.ensures at (sym f.ensures ∙ and_right p.result f.result both)))
+    (sym p.ensures ∙ and_left p.result f.result h, check_passed _ Malformed refl (rw d.before.form_answer.ensures at (sym f.ensures ∙ and_right p.result f.result h)))
 
 -- What the test for its range answered.
-outside : (d : tie.After-out-of-range) →
+outside : (d : tie.After-out_of_range) →
     let a = d.before.before.before.before.before.before.args in
     d.out_of_range.result ≡ out_of_range (get_or a.s.now pages_at 0) a.o
 outside d = rw d.before.pages.ensures at d.out_of_range.ensures
@@ -36,7 +35,7 @@ returns c =
     let f = c.before in
     let p = f.before.before.is_program-program in
     form_refused _ f.before.before.before.args.o
-    (rw (p.ensures, f.accepts-formed.ensures, f.before.form_answer.ensures) at (not-true (p.result && f.accepts-formed.result) c.if-not-program-formed.true))
+    (rw (p.ensures, f.accepts-formed.ensures, f.before.form_answer.ensures) at c.if-not-program-formed.true)
 
 returns_2 : tie.Need-returns-then-out_of_range
 unfolding operation_answer stands_for
@@ -56,11 +55,11 @@ returns_3 c =
 returns_4 : tie.Need-returns
 unfolding operation_answer stands_for
 returns_4 c =
-    let w = c.before.before.before in
+    let w = c.before.before.before.before in
     let r = w.before.before in
     let k = asked r.before.before.before r.before.before.if-not-program-formed.false in
-    let one = sym w.crosses_window.ensures ∙ c.before.before.if-crosses_window.false in
-    let g = rw c.before.page_of.ensures.0 at c.page_grants.ensures in
+    let one = sym w.crosses_window.ensures ∙ c.if-crosses_window.false in
+    let g = rw c.page_of.ensures.0 at c.page_grants.ensures in
     rw (k.0, k.1, sym (outside r) ∙ w.before.if-out_of_range.false, one, program_denied _ k.0 k.1 one _) (g ∙ by_grant _ _ refl)
 
 pub program_fits_spec : {M : Type 1} → statement M

@@ -2,7 +2,7 @@
 use mathlib.Core.Path.{◌≡◌, sym, ◌∙◌}
 use mathlib.Core.Bool.{Bool, true, false, ◌&&◌, ◌||◌, not}
 use native.Mathlib.Omega.{arith}
-use borrow.Author.Tests.{eqb-true, not-true, not-false}
+use borrow.Author.Tests.{eqb-true, not-true}
 use Rattle.model.specs.Kinds.{is_read}
 use Rattle.model.specs.Rights.{readable_words}
 use Rattle.model.specs.Refusals.{accepts, is_denied}
@@ -28,7 +28,7 @@ module _ (s : Setup) (o : Operation) (e : Bool) where
   asked h = let r : is_read o ≡ true = and_left (is_read o) _ h in rw (r, read_asked s o r, and_right (is_read o) _ h)
 
 -- What the code tests.
-tested : (c : tie.After-out-of-range) → let a = c.before.before.before.before.before.args in
+tested : (c : tie.After-out_of_range-outside) → let a = c.before.before.before.before.before.args in
     (c.before.before.before.before.is_read-read.result && (c.before.before.accepts-formed.result && not c.out_of_range-outside.result))
     ≡ Asked (stands_for a.s.now).setup a.o
 unfolding stands_for
@@ -36,8 +36,8 @@ tested c =
     let f = c.before.before in
     rw (c.out_of_range-outside.ensures, c.before.pages.ensures, f.accepts-formed.ensures, f.before.form_answer.ensures, f.before.before.is_read-read.ensures, formed)
 
-passed : (c : tie.Else1) → let a = c.before.before.before.before.before.before.args in Asked (stands_for a.s.now).setup a.o ≡ true
-passed c = sym (tested c.before) ∙ not-false _ c.if-not-read-formed.false
+passed : (c : tie.Else-not-read-formed) → let a = c.before.before.before.before.before.before.args in Asked (stands_for a.s.now).setup a.o ≡ true
+passed c = sym (tested c.before) ∙ c.if-not-read-formed.false
 
 pub read_fits_spec : {M : Type 1} → statement M
 unfolding readable_words
@@ -50,7 +50,7 @@ read_fits_spec =
     (λ c κs. tt)
     (λ c.
     let a = c.before.before.before.before.before.before.args in
-    unasked (stands_for a.s.now).setup a.o _ (sym (tested c.before) ∙ not-true _ c.if-not-read-formed.true))
+    unasked (stands_for a.s.now).setup a.o _ (sym (tested c.before) ∙ c.if-not-read-formed.true))
     (λ c κs.
     let o = c.before.before.before.before.before.before.args.o in
     let r = eqb-true o.kind 0 (and_left (is_read o) _ (passed c)) in

@@ -3,7 +3,6 @@ use mathlib.Core.Path.{◌≡◌, sym, ◌∙◌}
 use mathlib.Core.Bool.{true, false}
 use Prim.Native.Nat.{◌≤◌}
 use native.Mathlib.Omega.{arith}
-use borrow.Author.Tests.{not-true, not-false}
 use borrow.Author.Rules.{rules}
 use Rattle.model.specs.Places.{total_words}
 use Rattle.model.specs.State.{flash}
@@ -21,11 +20,11 @@ returns c =
     let a = t.before.before.before.before.before.before.before.args in
     rw c.unmoved.ensures
     (drive_refused a.steps a.s.now (flash a.image-1.now) a.o a.buffer-1.now _ t.before.before.whole_answer-first.ensures
-    (sym t.before.accepts.ensures ∙ not-true _ t.if-not-accepts.true))
+    (sym t.before.accepts.ensures ∙ t.if-not-accepts.true))
 
 -- Past the first test, checks 1 to 4 passed;
-free : (e : tie.Else1) → let a = e.before.before.before.before.before.before.before.args in accepts (whole_answer (decode a.s.now) (flash a.image-1.now)) ≡ true
-free e = rw e.before.before.whole_answer-first.ensures at (sym e.before.accepts.ensures ∙ not-false _ e.if-not-accepts.false)
+free : (e : tie.Else-not-accepts) → let a = e.before.before.before.before.before.before.before.args in accepts (whole_answer (decode a.s.now) (flash a.image-1.now)) ≡ true
+free e = rw e.before.before.whole_answer-first.ensures at (sym e.before.accepts.ensures ∙ e.if-not-accepts.false)
 
 returns_2 : tie.Need-returns-then-short_buffer
 returns_2 c =
@@ -36,7 +35,7 @@ returns_2 c =
     (drive_short a.steps a.s.now (flash a.image-1.now) a.o a.buffer-1.now (free e) (sym t.before.short_buffer.ensures ∙ t.if-short_buffer.true))
 
 -- past the second, 6.
-room : (u : tie.Else2) → let a = u.before.before.before.before.before.before.before.before.before.before.args in short_buffer a.o a.buffer-1.now ≡ false
+room : (u : tie.Else-short_buffer) → let a = u.before.before.before.before.before.before.before.before.before.before.args in short_buffer a.o a.buffer-1.now ≡ false
 room u = sym u.before.short_buffer.ensures ∙ u.if-short_buffer.false
 
 returns_3 : tie.Need-returns-then-not-starts
@@ -45,18 +44,18 @@ returns_3 c =
     let e = u.before.before.before in
     let a = e.before.before.before.before.before.before.before.args in
     drive_stops a.steps a.s.now (flash a.image-1.now) a.o a.buffer-1.now (free e) (room u) _ c.before.before.start-told.ensures
-    (sym c.before.starts.ensures ∙ not-true _ c.if-not-starts.true)
+    (sym c.before.starts.ensures ∙ c.if-not-starts.true)
 
 -- Past the third, it has started.
-go : (x : tie.Else3) → starts_by x.before.before.before.before.before.before.before.before.before.before.before.before.before.before.before.before.args.o x.before.before.start-told.result.answer ≡ true
-go x = sym x.before.starts.ensures ∙ not-false _ x.if-not-starts.false
+go : (x : tie.Else-not-starts) → starts_by x.before.before.before.before.before.before.before.before.before.before.before.before.before.before.before.before.args.o x.before.before.start-told.result.answer ≡ true
+go x = sym x.before.starts.ensures ∙ x.if-not-starts.false
 
-all : (t : tie.After-total-words)
+all : (t : tie.After-total_words-total)
     → let a = t.before.before.before.before.before.before.before.before.before.before.before.before.before.before.before.before.before.args in
     t.total_words-total.result ≡ total_words (setup_of a.s.now).pages-d a.o
 all t = rw t.before.before.before.before.before.pages-d.ensures at t.total_words-total.ensures
 
-few : (t : tie.After-total-words) → t.total_words-total.result ≤ 131072
+few : (t : tie.After-total_words-total) → t.total_words-total.result ≤ 131072
 few t =
     let x = t.before in
     let u = x.before.before.before.before.before.before in

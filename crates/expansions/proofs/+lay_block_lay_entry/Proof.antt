@@ -43,11 +43,11 @@ abbrev lay_entry_below : ℕ → In 2 lay_entry_kinds.ps
 lay_entry_below t = and 2 lay_entry_kinds.ps (falls 2 lay_entry_kinds.ps ◌<◌ μ-lay-entry t) lay_entry.Pre
 
 -- The first turns after one are laid.
-abbrev invariant_loop : lay_entry_lts.invariant_loop
+abbrev invariant_loop : lay_entry_lts.invariant-loop-again
 invariant_loop s at next tag depth places₀ n k inner end count₀ again₀ further places count again =
     Turning (block_at s inner (depth + 1)) further count₀ places₀ again places count
 
-abbrev decreases_loop : lay_entry_lts.decreases_loop
+abbrev decreases_loop : lay_entry_lts.decreases-loop-again
 decreases_loop s at next tag depth places₀ n k inner end count₀ again₀ further places count again = further - again
 
 pub +lay_block_lay_entry_spec : {M : Type 1} → statement M
@@ -60,40 +60,28 @@ pub +lay_block_lay_entry_spec : {M : Type 1} → statement M
     (λ c κs. tt)
     (λ c κs. tt)
     (λ c.
-    let x = c.before in
-    let e = x.before.before in
-    let o = e.before.before in
-    let a = o.args in
-    lays_end a.s.now a.at a.depth a.n o.requires.1 _ _ (x.before.value_of_lem.ensures ∙ ap value_of e.number-tag.ensures)
-    (x.next_of-next.ensures ∙ ap next_of e.number-tag.ensures) c.if-value-eq0.true)
+    let a = c.args in
+    lays_end a.s.now a.at a.depth a.n c.requires.1 _ _ (c.value_of-value.ensures ∙ ap value_of c.number-tag.ensures)
+    (c.next_of-next.ensures ∙ ap next_of c.number-tag.ensures) c.if-value-eq0.true)
     (λ c κs.
-    let x = c.before.before in
-    let e = x.before.before in
-    let o = e.before.before in
-    let a = o.args in
-    let v = x.before.value_of_lem.ensures ∙ ap value_of e.number-tag.ensures in
-    let y = x.next_of-next.ensures ∙ ap next_of e.number-tag.ensures in
-    let h = tag_falls a.s.now a.at a.depth a.n o.requires.1 _ _ v y in
-    (omega arith, first_room a.s.now a.at a.depth a.n o.requires.1 _ _ v y c.before.if-value-eq0.false))
+    let a = c.args in
+    let v = c.value_of-value.ensures ∙ ap value_of c.number-tag.ensures in
+    let y = c.next_of-next.ensures ∙ ap next_of c.number-tag.ensures in
+    let h = tag_falls a.s.now a.at a.depth a.n c.requires.1 _ _ v y in
+    (omega arith, first_room a.s.now a.at a.depth a.n c.requires.1 _ _ v y c.if-value-eq0.false))
     (λ c κs.
-    let x = c.before.before.before.before in
-    let e = x.before.before in
-    let o = e.before.before in
-    let a = o.args in
-    let v = x.before.value_of_lem.ensures ∙ ap value_of e.number-tag.ensures in
-    let y = x.next_of-next.ensures ∙ ap next_of e.number-tag.ensures in
-    let h = tag_falls a.s.now a.at a.depth a.n o.requires.1 _ _ v y in
-    let w = rest_room a.s.now a.at a.depth a.n o.requires.1 _ _ v y c.before.before.before.if-value-eq0.false _ c.before.lay_entry-first.ensures.1 in
+    let a = c.args in
+    let v = c.value_of-value.ensures ∙ ap value_of c.number-tag.ensures in
+    let y = c.next_of-next.ensures ∙ ap next_of c.number-tag.ensures in
+    let h = tag_falls a.s.now a.at a.depth a.n c.requires.1 _ _ v y in
+    let w = rest_room a.s.now a.at a.depth a.n c.requires.1 _ _ v y c.if-value-eq0.false _ c.lay_entry-first.ensures.1 in
     (omega (arith, w.1), w.0))
     (λ c.
-    let x = c.before.before.before.before.before in
-    let e = x.before.before in
-    let o = e.before.before in
-    let a = o.args in
-    let v = x.before.value_of_lem.ensures ∙ ap value_of e.number-tag.ensures in
-    let y = x.next_of-next.ensures ∙ ap next_of e.number-tag.ensures in
-    lays_both a.s.now a.at a.depth a.n o.requires.1 _ _ v y c.before.before.before.before.if-value-eq0.false a.places.now _ _ c.before.before.lay_entry-first.ensures.0
-    c.before.before.lay_entry-first.ensures.1 c.lay_block-first.ensures.0 c.lay_block-first.ensures.1))
+    let a = c.args in
+    let v = c.value_of-value.ensures ∙ ap value_of c.number-tag.ensures in
+    let y = c.next_of-next.ensures ∙ ap next_of c.number-tag.ensures in
+    lays_both a.s.now a.at a.depth a.n c.requires.1 _ _ v y c.if-value-eq0.false a.places.now _ _ c.lay_entry-first.ensures.0
+    c.lay_entry-first.ensures.1 c.lay_block.ensures.0 c.lay_block.ensures.1))
     (λ t. lay_entry_lts.spec
     (number_to_reads.Asked, number_to_reads.Learnt, value_of_reads.Asked, value_of_reads.Learnt, next_of_reads.Asked, next_of_reads.Learnt, lay_block_below t, lay_block.Post, last_number_reads.Asked, last_number_reads.Learnt)
     (lay_entry_at t)
@@ -104,114 +92,80 @@ pub +lay_block_lay_entry_spec : {M : Type 1} → statement M
     (λ c κs. tt)
     (λ c κs. tt)
     (λ c.
-    let x = c in
-    let e = x.before.before in
-    let o = e.before.before.before in
-    let a = o.args in
-    let two = e.before.if-value-eq0.true in
-    let v = x.before.value_of_lem.ensures ∙ ap value_of e.number_to-times.ensures in
-    let y = x.next_of-next.ensures ∙ ap next_of e.number_to-times.ensures in
-    omega (arith, shallow a.s.now a.at a.next a.tag a.depth a.n o.requires.1 two _ _ v y))
+    let a = c.args in
+    let two = c.if-tag-eq-REPEAT.true in
+    let v = c.value_of-k.ensures ∙ ap value_of c.number_to-times.ensures in
+    let y = c.next_of-inner.ensures ∙ ap next_of c.number_to-times.ensures in
+    omega (arith, shallow a.s.now a.at a.next a.tag a.depth a.n c.requires.1 two _ _ v y))
     (λ c κs.
-    let x = c.before in
-    let e = x.before.before in
-    let o = e.before.before.before in
-    let a = o.args in
-    let two = e.before.if-value-eq0.true in
-    let v = x.before.value_of_lem.ensures ∙ ap value_of e.number_to-times.ensures in
-    let y = x.next_of-next.ensures ∙ ap next_of e.number_to-times.ensures in
-    let h = count_falls a.s.now a.at a.next a.tag a.depth a.n o.requires.1 two _ _ v y in
-    (omega arith, turn_room a.s.now a.at a.next a.tag a.depth a.n o.requires.1 two _ _ v y))
+    let a = c.args in
+    let two = c.if-tag-eq-REPEAT.true in
+    let v = c.value_of-k.ensures ∙ ap value_of c.number_to-times.ensures in
+    let y = c.next_of-inner.ensures ∙ ap next_of c.number_to-times.ensures in
+    let h = count_falls a.s.now a.at a.next a.tag a.depth a.n c.requires.1 two _ _ v y in
+    (omega arith, turn_room a.s.now a.at a.next a.tag a.depth a.n c.requires.1 two _ _ v y))
     (λ c.
-    let x = c.before.before in
-    let e = x.before.before in
-    let o = e.before.before.before in
-    let a = o.args in
-    let two = e.before.if-value-eq0.true in
-    let v = x.before.value_of_lem.ensures ∙ ap value_of e.number_to-times.ensures in
-    let y = x.next_of-next.ensures ∙ ap next_of e.number_to-times.ensures in
-    omega (arith, count_some a.s.now a.at a.next a.tag a.depth a.n o.requires.1 two _ _ v y))
+    let a = c.args in
+    let two = c.if-tag-eq-REPEAT.true in
+    let v = c.value_of-k.ensures ∙ ap value_of c.number_to-times.ensures in
+    let y = c.next_of-inner.ensures ∙ ap next_of c.number_to-times.ensures in
+    omega (arith, count_some a.s.now a.at a.next a.tag a.depth a.n c.requires.1 two _ _ v y))
     (λ c.
-    let x = c.before.before in
-    let e = x.before.before in
-    let o = e.before.before.before in
-    let a = o.args in
-    let two = e.before.if-value-eq0.true in
-    let v = x.before.value_of_lem.ensures ∙ ap value_of e.number_to-times.ensures in
-    let y = x.next_of-next.ensures ∙ ap next_of e.number_to-times.ensures in
-    turns_begin a.s.now a.at a.next a.tag a.depth a.n o.requires.1 two _ _ v y _ c.lay_block-first.ensures.1)
+    let a = c.args in
+    let two = c.if-tag-eq-REPEAT.true in
+    let v = c.value_of-k.ensures ∙ ap value_of c.number_to-times.ensures in
+    let y = c.next_of-inner.ensures ∙ ap next_of c.number_to-times.ensures in
+    turns_begin a.s.now a.at a.next a.tag a.depth a.n c.requires.1 two _ _ v y _ c.lay_block-first.ensures.1)
     (λ c.
-    let x = c.before.before.before.before in
-    let e = x.before.before in
-    let o = e.before.before.before in
-    let a = o.args in
-    let two = e.before.if-value-eq0.true in
-    let v = x.before.value_of_lem.ensures ∙ ap value_of e.number_to-times.ensures in
-    let y = x.next_of-next.ensures ∙ ap next_of e.number_to-times.ensures in
-    omega (arith, shallow a.s.now a.at a.next a.tag a.depth a.n o.requires.1 two _ _ v y))
+    let a = c.args in
+    let two = c.if-tag-eq-REPEAT.true in
+    let v = c.value_of-k.ensures ∙ ap value_of c.number_to-times.ensures in
+    let y = c.next_of-inner.ensures ∙ ap next_of c.number_to-times.ensures in
+    omega (arith, shallow a.s.now a.at a.next a.tag a.depth a.n c.requires.1 two _ _ v y))
     (λ c κs.
-    let x = c.before.before.before.before.before in
-    let e = x.before.before in
-    let o = e.before.before.before in
-    let a = o.args in
-    let two = e.before.if-value-eq0.true in
-    let v = x.before.value_of_lem.ensures ∙ ap value_of e.number_to-times.ensures in
-    let y = x.next_of-next.ensures ∙ ap next_of e.number_to-times.ensures in
-    let h = count_falls a.s.now a.at a.next a.tag a.depth a.n o.requires.1 two _ _ v y in
-    (omega arith, turning_room c.before.before.loop-again.invariant (goes_on _ _ _ c.before.loop-again-test.true)))
+    let a = c.args in
+    let two = c.if-tag-eq-REPEAT.true in
+    let v = c.value_of-k.ensures ∙ ap value_of c.number_to-times.ensures in
+    let y = c.next_of-inner.ensures ∙ ap next_of c.number_to-times.ensures in
+    let h = count_falls a.s.now a.at a.next a.tag a.depth a.n c.requires.1 two _ _ v y in
+    (omega arith, turning_room c.loop-again.invariant (goes_on _ _ _ c.loop-again-test.true)))
     (λ c.
-    let x = c.before.before.before.before.before.before in
-    let e = x.before.before in
-    let o = e.before.before.before in
-    let a = o.args in
-    let two = e.before.if-value-eq0.true in
-    let v = x.before.value_of_lem.ensures ∙ ap value_of e.number_to-times.ensures in
-    let y = x.next_of-next.ensures ∙ ap next_of e.number_to-times.ensures in
-    let l = c.before.before.before.loop-again in
-    let h = count_small a.s.now a.at a.next a.tag a.depth a.n o.requires.1 two _ _ v y in
-    omega (arith, h, goes_on l.again (x.before.value_of_lem.result - 1) _ c.before.before.loop-again-test.true))
+    let a = c.args in
+    let two = c.if-tag-eq-REPEAT.true in
+    let v = c.value_of-k.ensures ∙ ap value_of c.number_to-times.ensures in
+    let y = c.next_of-inner.ensures ∙ ap next_of c.number_to-times.ensures in
+    let l = c.loop-again in
+    let h = count_small a.s.now a.at a.next a.tag a.depth a.n c.requires.1 two _ _ v y in
+    omega (arith, h, goes_on l.again (c.value_of-k.result - 1) _ c.loop-again-test.true))
     (λ c.
-    let x = c.before.before.before.before.before.before in
-    let e = x.before.before in
-    let o = e.before.before.before in
-    let a = o.args in
-    let two = e.before.if-value-eq0.true in
-    let v = x.before.value_of_lem.ensures ∙ ap value_of e.number_to-times.ensures in
-    let y = x.next_of-next.ensures ∙ ap next_of e.number_to-times.ensures in
-    let l = c.before.before.before.loop-again in
-    let h = goes_on l.again (x.before.value_of_lem.result - 1) _ c.before.before.loop-again-test.true in
+    let a = c.args in
+    let two = c.if-tag-eq-REPEAT.true in
+    let v = c.value_of-k.ensures ∙ ap value_of c.number_to-times.ensures in
+    let y = c.next_of-inner.ensures ∙ ap next_of c.number_to-times.ensures in
+    let l = c.loop-again in
+    let h = goes_on l.again (c.value_of-k.result - 1) _ c.loop-again-test.true in
     omega arith)
     (λ c.
-    let l = c.before.before.before in
-    turning_more l.loop-again.invariant (goes_on _ _ _ c.before.before.loop-again-test.true) c.lay_block-more.ensures.0 (ap (λ (x : Laid). x.count) c.lay_block-more.ensures.1))
+    turning_more c.loop-again.invariant (goes_on _ _ _ c.loop-again-test.true) c.lay_block-more.ensures.0 (ap (λ (x : Laid). x.count) c.lay_block-more.ensures.1))
     (λ c.
-    let x = c.before.before.before.before in
-    let e = x.before.before in
-    let o = e.before.before.before in
-    let a = o.args in
-    let two = e.before.if-value-eq0.true in
-    let v = x.before.value_of_lem.ensures ∙ ap value_of e.number_to-times.ensures in
-    let y = x.next_of-next.ensures ∙ ap next_of e.number_to-times.ensures in
-    let b = c.before.before.lay_block-first in
-    lays_turns a.s.now a.at a.next a.tag a.depth a.n o.requires.1 two _ _ v y
-    a.places.now b.result b.ensures.0 b.ensures.1 c.before.loop-again.invariant c.loop-again-test.false)
+    let a = c.args in
+    let two = c.if-tag-eq-REPEAT.true in
+    let v = c.value_of-k.ensures ∙ ap value_of c.number_to-times.ensures in
+    let y = c.next_of-inner.ensures ∙ ap next_of c.number_to-times.ensures in
+    let b = c.lay_block-first in
+    lays_turns a.s.now a.at a.next a.tag a.depth a.n c.requires.1 two _ _ v y
+    a.places.now b.result b.ensures.0 b.ensures.1 c.loop-again.invariant c.loop-again-test.false)
     (λ c κs. tt)
     (λ c.
-    let o = c.before.before.before in
-    let a = o.args in
-    omega (arith, once_room a.s.now a.at a.next a.tag a.depth a.n o.requires.1 c.before.if-value-eq0.false _ c.last_number-end.ensures))
+    let a = c.args in
+    omega (arith, once_room a.s.now a.at a.next a.tag a.depth a.n c.requires.1 c.if-tag-eq-REPEAT.false _ c.last_number-end.ensures))
     (λ c.
-    let o = c.before.before.before in
-    let a = o.args in
-    once_room a.s.now a.at a.next a.tag a.depth a.n o.requires.1 c.before.if-value-eq0.false _ c.last_number-end.ensures)
+    let a = c.args in
+    once_room a.s.now a.at a.next a.tag a.depth a.n c.requires.1 c.if-tag-eq-REPEAT.false _ c.last_number-end.ensures)
     (λ c κs. tt)
     (λ c.
-    let l = c.before in
-    let o = l.before.before.before in
-    let a = o.args in
-    omega (arith, once_room a.s.now a.at a.next a.tag a.depth a.n o.requires.1 l.before.if-value-eq0.false _ l.last_number-end.ensures))
+    let a = c.args in
+    omega (arith, once_room a.s.now a.at a.next a.tag a.depth a.n c.requires.1 c.if-tag-eq-REPEAT.false _ c.last_number-end.ensures))
     (λ c.
-    let l = c.before in
-    let o = l.before.before.before in
-    let a = o.args in
-    lays_once a.s.now a.at a.next a.tag a.depth a.n o.requires.1 l.before.if-value-eq0.false _ l.last_number-end.ensures c.next_of.ensures a.places.now))
+    let a = c.args in
+    lays_once a.s.now a.at a.next a.tag a.depth a.n c.requires.1 c.if-tag-eq-REPEAT.false _ c.last_number-end.ensures c.next_of.ensures a.places.now))

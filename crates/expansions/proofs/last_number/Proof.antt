@@ -9,6 +9,6 @@ last_number_spec =
     tie.close
     (tie.spec
     (λ c κs. tt)
-    (λ c. rw (eq-eqb _ _ c.before.if-tag-eq-OPERATION.true, ← c.stated_at-stated.ensures) refl)
+    (λ c. rw (eq-eqb _ _ c.if-tag-eq-OPERATION.true, ← c.stated_at-stated.ensures) refl)
     (λ c κs. tt)
-    (λ c. rw (ne_eqb _ _ c.before.if-tag-eq-OPERATION.false) c.number_to.ensures))
+    (λ c. rw (ne_eqb _ _ c.if-tag-eq-OPERATION.false) c.number_to.ensures))

@@ -1,6 +1,5 @@
 -- `host::host_read` meets its contract. Assumes nothing.
 use mathlib.Core.Path.{sym, ◌∙◌}
-use borrow.Author.Tests.{not-true, not-false}
 use Rattle.model.specs.Refusals.{accepts}
 use Rattle.host.proofs.Hosted.{read_early}
 use Rattle.host.proofs.host_read.Statement.{statement}
@@ -12,6 +11,6 @@ host_read_spec =
     (λ c κs. tt)
     (λ c κs. tt)
     (λ c κs. tt)
-    (λ c. let r = c.before.before.before.ready_with-ready.ensures in rw (c.told_word.ensures, r) (read_early _ _ _ (rw r at (sym c.before.before.accepts.ensures ∙ not-true _ c.before.if-not-accepts.true))))
-    (λ c κs. rw c.before.before.ready_with-ready.ensures at (sym c.before.accepts.ensures ∙ not-false _ c.if-not-accepts.false))
-    (λ c. c.Ready-read.ensures))
+    (λ c. let r = c.ready_with-ready.ensures in rw (c.told_word.ensures, r) (read_early _ _ _ (rw r at (sym c.accepts.ensures ∙ c.if-not-accepts.true))))
+    (λ c κs. rw c.ready_with-ready.ensures at (sym c.accepts.ensures ∙ c.if-not-accepts.false))
+    (λ c. c.ready_read.ensures))

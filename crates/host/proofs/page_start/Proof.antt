@@ -9,4 +9,4 @@ page_start_spec =
     (λ c κs. tt)
     (λ c κs. rw c.pages.ensures (search rules))
     (λ c κs. search rules)
-    (λ c. rw (c.first_word-first.ensures, c.before.image_page-q.ensures.0, c.before.before.pages.ensures)))
+    (λ c. rw (c.first_word-first.ensures, c.image_page-q.ensures.0, c.pages.ensures)))

@@ -9,4 +9,4 @@ read_answer_spec =
     (λ c κs. tt)
     (λ c κs. search rules)
     (λ c κs. tt)
-    (λ c. rw (c.check.ensures, c.before.grants.ensures, c.before.before.ruling_at-ruling.ensures)))
+    (λ c. rw (c.check.ensures, c.grants.ensures, c.ruling_at-ruling.ensures)))

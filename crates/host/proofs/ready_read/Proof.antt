@@ -1,6 +1,5 @@
 -- `host::ready_read` meets its contract. Assumes nothing.
 use mathlib.Core.Path.{◌≡◌, sym, ap, ◌∙◌}
-use borrow.Author.Tests.{not-true, not-false}
 use Rattle.model.specs.State.{flash}
 use Rattle.model.specs.Refusals.{accepts}
 use Rattle.model.specs.Host.{host_answer}
@@ -27,10 +26,10 @@ ready_read_spec =
     (λ c κs. tt)
     (λ c κs. tt)
     (λ c κs. tt)
-    (λ c. let t = c.before in rw (c.told_word.ensures, answered t.before) (read_refused _ _ _ (sym (asked t.before) ∙ not-true _ t.if-not-accepts.true)))
+    (λ c. let t = c.before in rw (c.told_word.ensures, answered t.before) (read_refused _ _ _ (sym (asked t.before) ∙ t.if-not-accepts.true)))
     (λ c κs. tt)
-    (λ c κs. rw c.pages.ensures (read_inside _ _ _ (sym (asked c.before.before) ∙ not-false _ c.before.if-not-accepts.false)).0)
-    (λ c κs. rw (c.word_at-place.ensures, c.before.pages.ensures) (read_inside _ _ _ (sym (asked c.before.before.before) ∙ not-false _ c.before.before.if-not-accepts.false)).1)
+    (λ c κs. rw c.pages.ensures (read_inside _ _ _ (sym (asked c.before.before) ∙ c.before.if-not-accepts.false)).0)
+    (λ c κs. rw (c.word_at-place.ensures, c.before.pages.ensures) (read_inside _ _ _ (sym (asked c.before.before.before) ∙ c.before.before.if-not-accepts.false)).1)
     (λ c κs. tt)
     (λ c.
     let w = c.before.before in
@@ -41,4 +40,4 @@ ready_read_spec =
       w.word_at-place.ensures,
       w.before.pages.ensures,
       answered t.before,
-    ) (read_accepted _ _ _ (sym (asked t.before) ∙ not-false _ t.if-not-accepts.false))))
+    ) (read_accepted _ _ _ (sym (asked t.before) ∙ t.if-not-accepts.false))))

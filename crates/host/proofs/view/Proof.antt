@@ -14,35 +14,35 @@ use Rattle.host.proofs.view.Statement.{statement}
 use Rattle.host.proofs.view.Tie as tie
 
 -- Whether the checks accepted.
-asked : (d : tie.After-accepts) →
+asked : (d : tie.After-accepts-accepted) →
     let v = d.before.before.before.args in
-    d.accepts-accepted.result-1 ≡ accepts (view_answer (decode v.s.now) (flash v.image.now) v.p)
+    d.accepts-accepted.result ≡ accepts (view_answer (decode v.s.now) (flash v.image.now) v.p)
 asked d = rw d.before.view_answer-answer.ensures at d.accepts-accepted.ensures
 
 -- In the branch that shows the page, they did,
-granted : (d : tie.Then1) →
+granted : (d : tie.Then-accepted) →
     let v = d.before.before.before.before.before.before.args in
     accepts (view_answer (decode v.s.now) (flash v.image.now) v.p) ≡ true
 granted d = sym (asked d.before.before.before) ∙ d.if-accepted.true
 
 -- and it starts where the controller's D puts it.
-found : (d : tie.After-page-start) →
+found : (d : tie.After-page_start-start) →
     let v = d.before.before.before.before.before.before.before.args in
-    d.page_start-start.result-1 ≡ (first_word (image_page (decode v.s.now).setup.pages false 0 v.p)).0
+    d.page_start-start.result ≡ (first_word (image_page (decode v.s.now).setup.pages false 0 v.p)).0
 found d =
     let v = d.before.before.before.before.before.before.before.args in
     d.page_start-start.ensures ∙ ap (λ (n : ℕ). (first_word (image_page n false 0 v.p)).0) (view_pages _ _ _ (granted d.before))
 
 -- The number that is written is the answer's.
-told : (d : tie.After-number-of) →
+told : (d : tie.After-number_of-number) →
     let v = d.before.before.before.before.args in
-    d.number_of_lem.result-1 ≡ number_of (view_answer (decode v.s.now) (flash v.image.now) v.p)
-told d = rw d.before.before.view_answer-answer.ensures at d.number_of_lem.ensures
+    d.number_of-number.result ≡ number_of (view_answer (decode v.s.now) (flash v.image.now) v.p)
+told d = rw d.before.before.view_answer-answer.ensures at d.number_of-number.ensures
 
 -- and so is what it reports.
-named : (d : tie.After-reported) →
+named : (d : tie.After-reported-by) →
     let v = d.before.before.before.before.before.args in
-    d.reported-by.result-1 ≡ reported (view_answer (decode v.s.now) (flash v.image.now) v.p)
+    d.reported-by.result ≡ reported (view_answer (decode v.s.now) (flash v.image.now) v.p)
 named d = rw d.before.before.before.view_answer-answer.ensures at d.reported-by.ensures
 
 pub view_spec : {M : Type 1} → statement M

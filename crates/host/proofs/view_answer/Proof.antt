@@ -17,9 +17,6 @@ view_answer_spec =
     (λ c κs. tt)
     (λ c κs. tt)
     (λ c.
-    let u = c.before.before in
-    let k = u.before.before.before in
-    let r = k.before in
-    rw (c.or_else-2.ensures, c.before.or_else.ensures, u.read_answer-right.ensures)
-    (rw (u.before.check-range.ensures, k.pages.ensures, r.ready_with-ready.ensures)
+    rw (c.or_else-2.ensures, c.or_else.ensures, c.read_answer-right.ensures)
+    (rw (c.check-range.ensures, c.pages.ensures, c.ready_with-ready.ensures)
     (view_answer_same _ _ _))))

@@ -1,6 +1,5 @@
 -- `host::view_start` meets its contract. Assumes nothing.
 use mathlib.Core.Path.{◌≡◌, sym, ◌∙◌}
-use borrow.Author.Tests.{not-true, not-false}
 use Rattle.model.specs.State.{flash}
 use Rattle.model.specs.Refusals.{accepts}
 use Rattle.model.specs.Host.{view_answer}
@@ -21,8 +20,8 @@ view_start_spec =
     (λ c κs. tt)
     (λ c κs. tt)
     (λ c κs. tt)
-    (λ c. let t = c.before in rw (c.told_start.ensures, t.before.before.view_answer-answer.ensures) (view_refused _ _ _ (sym (asked t.before) ∙ not-true _ t.if-not-accepts.true)))
-    (λ c κs. let h = view_inside _ _ _ (sym (asked c.before) ∙ not-false _ c.if-not-accepts.false) in (h.0, h.1))
+    (λ c. let t = c.before in rw (c.told_start.ensures, t.before.before.view_answer-answer.ensures) (view_refused _ _ _ (sym (asked t.before) ∙ t.if-not-accepts.true)))
+    (λ c κs. let h = view_inside _ _ _ (sym (asked c.before) ∙ c.if-not-accepts.false) in (h.0, h.1))
     (λ c κs. tt)
     (λ c. let t = c.before.before in rw (c.told_start-2.ensures, c.before.page_start.ensures, t.before.before.view_answer-answer.ensures)
-    (view_accepted _ _ _ (sym (asked t.before) ∙ not-false _ t.if-not-accepts.false))))
+    (view_accepted _ _ _ (sym (asked t.before) ∙ t.if-not-accepts.false))))

@@ -1,6 +1,5 @@
 -- `inputs::clear` meets its contract. Assumes nothing.
 use mathlib.Core.Path.{sym, ◌∙◌}
-use borrow.Author.Tests.{not-true, not-false}
 use Rattle.inputs.proofs.Configured.{clear_refused, clear_accepted}
 use Rattle.inputs.proofs.clear.Statement.{statement}
 use Rattle.inputs.proofs.clear.Tie as tie
@@ -10,7 +9,7 @@ clear_spec =
     tie.close (tie.spec
     (λ c κs. tt)
     (λ c κs. tt)
-    (λ c. rw c.number.ensures (clear_refused _ (sym c.before.before.valid.ensures ∙ not-true _ c.before.if-not-valid.true)))
+    (λ c. rw c.number.ensures (clear_refused _ (sym c.valid.ensures ∙ c.if-not-valid.true)))
     (λ c κs. tt)
     (λ c κs. tt)
-    (λ c. rw (c.put_errors.ensures, c.before.no_errors.ensures) (clear_accepted _ (sym c.before.before.before.before.valid.ensures ∙ not-false _ c.before.before.before.if-not-valid.false))))
+    (λ c. rw (c.put_errors.ensures, c.no_errors.ensures) (clear_accepted _ (sym c.valid.ensures ∙ c.if-not-valid.false))))

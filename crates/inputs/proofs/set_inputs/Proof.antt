@@ -7,8 +7,8 @@ use Rattle.inputs.proofs.set_inputs.Statement.{statement}
 use Rattle.inputs.proofs.set_inputs.Tie as tie
 
 -- By what the checks answered.
-set : (d : tie.After-setting-answer) →
-    let v = d.before.before.args in
+set : (d : tie.After-setting_answer-answer) →
+    let v = d.args in
     Set v.s.now true d.setting_answer-answer.result (put_inputs v.s.now v.inputs) (set_inputs_in v.s.now v.inputs)
 set d = inputs_set _ _ _ d.setting_answer-answer.ensures
 
@@ -18,6 +18,6 @@ set_inputs_spec =
     (λ c κs. tt)
     (λ c κs. tt)
     (λ c κs. tt)
-    (λ c. let b = c.before.before in (set b.before).refused c.number.ensures b.accepts.ensures c.before.if-not-accepts.true)
+    (λ c. let b = c.before.before in (set b.before).refused c.number.ensures b.accepts.ensures c.if-not-accepts.true)
     (λ c κs. tt)
-    (λ c. let b = c.before.before.before in (set b.before).accepted c.put_inputs.ensures b.accepts.ensures c.before.before.if-not-accepts.false))
+    (λ c. let b = c.before.before.before in (set b.before).accepted c.put_inputs.ensures b.accepts.ensures c.if-not-accepts.false))

@@ -16,8 +16,6 @@ initialise_answer_spec =
     (λ c κs. tt)
     (λ c κs. tt)
     (λ c.
-    let k = c.before.before.before in
-    let v = k.before.before.before.before in
-    rw (c.or_else-2.ensures, c.before.or_else.ensures, c.before.before.check-ready.ensures)
-    (rw (k.is_ready.ensures, k.before.check-disabled.ensures, k.before.before.is_disabled.ensures, k.before.before.before.check-invalid.ensures, v.valid_with.ensures, v.before.phase-phase.ensures)
+    rw (c.or_else-2.ensures, c.or_else.ensures, c.check-ready.ensures)
+    (rw (c.is_ready.ensures, c.check-disabled.ensures, c.is_disabled.ensures, c.check-invalid.ensures, c.valid_with.ensures, c.phase-phase.ensures)
     (initialise_answer_same _ _))))

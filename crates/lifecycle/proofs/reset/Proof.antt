@@ -1,6 +1,5 @@
 -- `lifecycle::reset` meets its contract. Assumes nothing.
 use mathlib.Core.Path.{sym, ◌∙◌}
-use borrow.Author.Tests.{not-true, not-false}
 use Rattle.lifecycle.proofs.Cycled.{reset_refused, reset_accepted}
 use Rattle.lifecycle.proofs.reset.Statement.{statement}
 use Rattle.lifecycle.proofs.reset.Tie as tie
@@ -10,6 +9,6 @@ reset_spec =
     tie.close (tie.spec
     (λ c κs. tt)
     (λ c κs. tt)
-    (λ c. rw c.number.ensures (reset_refused _ _ (sym c.before.before.pages_fit.ensures ∙ not-true _ c.before.if-not-pages_fit.true)))
+    (λ c. rw c.number.ensures (reset_refused _ _ (sym c.pages_fit.ensures ∙ c.if-not-pages_fit.true)))
     (λ c κs. tt)
-    (λ c. rw c.clear.ensures (reset_accepted _ _ (sym c.before.before.before.pages_fit.ensures ∙ not-false _ c.before.before.if-not-pages_fit.false))))
+    (λ c. rw c.clear.ensures (reset_accepted _ _ (sym c.pages_fit.ensures ∙ c.if-not-pages_fit.false))))

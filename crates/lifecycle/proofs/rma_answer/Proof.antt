@@ -17,16 +17,14 @@ rma_answer_spec =
     (λ c κs. tt)
     (λ c κs. tt)
     (λ c.
-    let k = c.before.before.before in
-    let v = k.before.before.before.before in
-    rw (c.or_else-2.ensures, c.before.or_else.ensures, c.before.before.check-busy.ensures)
+    rw (c.or_else-2.ensures, c.or_else.ensures, c.check-busy.ensures)
     (rw (
-      k.is_busy.ensures,
-      k.before.check-disabled.ensures,
-      k.before.before.is_disabled.ensures,
-      k.before.before.before.check-invalid.ensures,
-      v.valid_with.ensures,
-      v.before.progress-progress.ensures,
-      v.before.before.phase-phase.ensures,
+      c.is_busy.ensures,
+      c.check-disabled.ensures,
+      c.is_disabled.ensures,
+      c.check-invalid.ensures,
+      c.valid_with.ensures,
+      c.progress-progress.ensures,
+      c.phase-phase.ensures,
     )
     (rma_answer_same _ _))))

@@ -28,5 +28,5 @@ seed_spec =
     (λ c. omega arith)
     (λ c. omega arith)
     (λ c. omega arith)
-    (λ c. let l = c.before.before.loop-i in (omega arith, simp length-set l.invariant.1, copied_more (omega arith) l.invariant.2))
-    (λ c. let l = c.before.loop-i in let done : l.i ≡ 8 = omega arith in copied_all l.invariant.1 (omega arith) (rw done at l.invariant.2)))
+    (λ c. let l = c.loop-i in (omega arith, simp length-set l.invariant.1, copied_more (omega arith) l.invariant.2))
+    (λ c. let l = c.loop-i in let done : l.i ≡ 8 = omega arith in copied_all l.invariant.1 (omega arith) (rw done at l.invariant.2)))

@@ -9,9 +9,8 @@ seeds_of_spec =
     tie.close (tie.spec
     (λ c κs. search rules)
     (λ c κs. search rules)
-    (λ c κs. rw (c.first_word.ensures, c.before.special_page.ensures.0) (omega arith))
+    (λ c κs. rw (c.first_word.ensures, c.special_page.ensures.0) (omega arith))
     (λ c κs. search rules)
     (λ c κs. search rules)
-    (λ c κs. rw (c.first_word-2.ensures, c.before.special_page-2.ensures.0) (omega arith))
-    (λ c. let b = c.before.before in let d = b.before in
-    rw (c.seed-owner.ensures, c.before.first_word-2.ensures, b.special_page-2.ensures.0, d.seed-creator.ensures, d.before.first_word.ensures, d.before.before.special_page.ensures.0)))
+    (λ c κs. rw (c.first_word-2.ensures, c.special_page-2.ensures.0) (omega arith))
+    (λ c. rw (c.seed-owner.ensures, c.first_word-2.ensures, c.special_page-2.ensures.0, c.seed-creator.ensures, c.first_word.ensures, c.special_page.ensures.0)))

@@ -7,14 +7,14 @@ use Rattle.operations.proofs.begin.Statement.{statement}
 use Rattle.operations.proofs.begin.Tie as tie
 
 -- In the branch of what starts.
-going : (c : tie.Then1) → let a = c.before.before.args in starts a.o a.answer ≡ true
-going c = sym c.before.starts.ensures ∙ c.if-starts.true
+going : (c : tie.Then-starts) → let a = c.args in starts a.o a.answer ≡ true
+going c = sym c.starts.ensures ∙ c.if-starts.true
 
 pub begin_spec : {M : Type 1} → statement M
 begin_spec =
     tie.close (tie.spec
     (λ c κs. tt)
-    (λ c κs. (c.before.before.before.requires, going c.before))
+    (λ c κs. (c.requires, going c))
     (λ c κs. tt)
-    (λ c. simp (c.put_running.ensures, c.before.before.readable-words.ensures) (begin_starts c.before.before.before.before.before.before.requires (going c.before.before.before.before)))
-    (λ c. begin_stays c.before.before.requires (sym c.before.starts.ensures ∙ c.if-starts.false)))
+    (λ c. simp (c.put_running.ensures, c.readable-words.ensures) (begin_starts c.requires (going c.before.before.before)))
+    (λ c. begin_stays c.requires (sym c.starts.ensures ∙ c.if-starts.false)))

@@ -7,9 +7,9 @@ use Rattle.operations.proofs.started.Tie as tie
 pub started_spec : {M : Type 1} → statement M
 started_spec =
     tie.close (tie.spec
-    (λ c κs. c.before.requires.answered)
+    (λ c κs. c.requires.answered)
     (λ c κs. search rules)
     (λ c κs. tt)
     (λ c.
-    rw (c.put_errors.ensures, c.before.before.begin.ensures, c.before.before.before.before.recorded-errors.ensures)
-    (begin_records c.before.before.before.before.before.before.requires)))
+    rw (c.put_errors.ensures, c.begin.ensures, c.recorded-errors.ensures)
+    (begin_records c.requires)))

@@ -1,6 +1,6 @@
 -- `queueing::pop` meets its contract. Assumes nothing.
 use mathlib.Core.Path.{sym, ◌∙◌}
-use borrow.Author.Tests.{eq-eqb, ne_eqb, not-true, not-false}
+use borrow.Author.Tests.{eq-eqb, ne_eqb}
 use Rattle.queueing.proofs.Popped.{pop_invalid, pop_none, pop_takes, reads_some}
 use Rattle.queueing.proofs.pop.Statement.{statement}
 use Rattle.queueing.proofs.pop.Tie as tie
@@ -9,26 +9,22 @@ pub pop_spec : {M : Type 1} → statement M
 pop_spec =
     tie.close (tie.spec
     (λ c κs. tt)
-    (λ c. pop_invalid c.before.before.before.args.s.now (sym c.before.valid.ensures ∙ not-true _ c.if-not-valid.true))
+    (λ c. pop_invalid c.args.s.now (sym c.valid.ensures ∙ c.if-not-valid.true))
     (λ c κs. tt)
     (λ c.
-    let v = c.before.before.before.before in
-    pop_none v.before.before.args.s.now (sym v.valid.ensures ∙ not-false _ c.before.before.before.if-not-valid.false)
-    (rw c.before.read_count.ensures at (eq-eqb _ _ c.if-read_count-eq0.true)))
+    pop_none c.args.s.now (sym c.valid.ensures ∙ c.if-not-valid.false)
+    (rw c.read_count.ensures at (eq-eqb _ _ c.if-read_count-eq0.true)))
     (λ c κs. tt)
     (λ c κs.
-    let v = c.before.before.before.before.before.before in
     rw c.reads-reads.ensures
-    (reads_some v.before.before.args.s.now (sym v.valid.ensures ∙ not-false _ c.before.before.before.before.before.if-not-valid.false)
-    (rw c.before.before.before.read_count.ensures at (ne_eqb _ _ c.before.before.if-read_count-eq0.false))))
+    (reads_some c.args.s.now (sym c.valid.ensures ∙ c.if-not-valid.false)
+    (rw c.read_count.ensures at (ne_eqb _ _ c.if-read_count-eq0.false))))
     (λ c κs.
-    let v = c.before.before.before.before.before.before.before.before in
-    rw c.before.before.reads-reads.ensures
-    (reads_some v.before.before.args.s.now (sym v.valid.ensures ∙ not-false _ c.before.before.before.before.before.before.before.if-not-valid.false)
-    (rw c.before.before.before.before.before.read_count.ensures at (ne_eqb _ _ c.before.before.before.before.if-read_count-eq0.false))))
+    rw c.reads-reads.ensures
+    (reads_some c.args.s.now (sym c.valid.ensures ∙ c.if-not-valid.false)
+    (rw c.read_count.ensures at (ne_eqb _ _ c.if-read_count-eq0.false))))
     (λ c κs. tt)
     (λ c.
-    let v = c.before.before.before.before.before.before.before.before.before.before in
-    rw (c.put_reads.ensures, c.before.pop.ensures, c.before.before.before.oldest-word.ensures, c.before.before.before.before.reads-reads.ensures)
-    (pop_takes v.before.before.args.s.now (sym v.valid.ensures ∙ not-false _ c.before.before.before.before.before.before.before.before.before.if-not-valid.false)
-    (rw c.before.before.before.before.before.before.before.read_count.ensures at (ne_eqb _ _ c.before.before.before.before.before.before.if-read_count-eq0.false)))))
+    rw (c.put_reads.ensures, c.pop.ensures, c.oldest-word.ensures, c.reads-reads.ensures)
+    (pop_takes c.args.s.now (sym c.valid.ensures ∙ c.if-not-valid.false)
+    (rw c.read_count.ensures at (ne_eqb _ _ c.if-read_count-eq0.false)))))

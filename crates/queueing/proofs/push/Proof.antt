@@ -1,6 +1,6 @@
 -- `queueing::push` meets its contract. Assumes nothing.
 use mathlib.Core.Path.{sym, ap, ◌∙◌}
-use borrow.Author.Tests.{leb-false, not-true, not-false}
+use borrow.Author.Tests.{leb-false}
 use borrow.Author.Rules.{rules}
 use Rattle.model.specs.declared.Progress.TheVariants.{Running}
 use Rattle.queueing.proofs.Pushed.{push_early, push_idle, push_other, push_all, push_full, push_joins}
@@ -14,62 +14,47 @@ push_spec =
     (λ c κs. tt)
     (λ c κs. tt)
     (λ c.
-    let r = c.before.before.before in
-    let a = r.before.before in
     rw c.number.ensures
-    (push_early a.args.s.now a.args.word r.ready-ready.result
-    r.ready-ready.ensures
-    (sym c.before.before.accepts.ensures ∙ not-true _ c.before.if-not-accepts.true)))
+    (push_early c.args.s.now c.args.word c.ready-ready.result
+    c.ready-ready.ensures
+    (sym c.accepts.ensures ∙ c.if-not-accepts.true)))
     (λ c κs. tt)
     (λ c. search rules)
     (λ c. search rules)
     (λ c.
-    let r = c.before.before.before.before.before.before in
-    let a = r.before.before in
-    push_idle a.args.s.now a.args.word r.ready-ready.result
-    r.ready-ready.ensures
-    (sym c.before.before.before.before.before.accepts.ensures ∙ not-false _ c.before.before.before.before.if-not-accepts.false)
-    (sym c.before.before.progress-progress.ensures ∙ c.in_default.is))
+    push_idle c.args.s.now c.args.word c.ready-ready.result
+    c.ready-ready.ensures
+    (sym c.accepts.ensures ∙ c.if-not-accepts.false)
+    (sym c.progress-progress.ensures ∙ c.in_default.is))
     (λ c. search rules)
     (λ c.
-    let r = c.before.before.before.before.before.before.before.before in
-    let a = r.before.before in
-    push_other a.args.s.now a.args.word r.ready-ready.result
-    r.ready-ready.ensures
-    (sym c.before.before.before.before.before.before.before.accepts.ensures ∙ not-false _ c.before.before.before.before.before.before.if-not-accepts.false)
-    c.before.before.progress-1.given.0.0 (sym c.before.before.before.before.progress-progress.ensures ∙ c.in-Running.is) c.in_default-work.keys2)
+    push_other c.args.s.now c.args.word c.ready-ready.result
+    c.ready-ready.ensures
+    (sym c.accepts.ensures ∙ c.if-not-accepts.false)
+    c.in-Running.work (sym c.progress-progress.ensures ∙ c.in-Running.is) c.in_default-work.not-Program)
     (λ c κs. tt)
     (λ c κs. tt)
     (λ c.
-    let m = c.before.before.before.before.before in
-    let r = m.before.before.before.before.before.before.before.before.before in
-    let a = r.before.before in
-    push_all a.args.s.now a.args.word r.ready-ready.result
-    r.ready-ready.ensures
-    (sym m.before.before.before.before.before.before.before.before.accepts.ensures ∙ not-false _ m.before.before.before.before.before.before.before.if-not-accepts.false)
-    _ _ (sym m.before.before.before.before.before.progress-progress.ensures ∙ m.in-Running.is ∙ ap Running m.in-Program.is)
-    (rw c.before.before.programs-programs.ensures at (sym c.before.pushed_all.ensures ∙ c.if-pushed_all.true)))
+    push_all c.args.s.now c.args.word c.ready-ready.result
+    c.ready-ready.ensures
+    (sym c.accepts.ensures ∙ c.if-not-accepts.false)
+    _ _ (sym c.progress-progress.ensures ∙ c.in-Running.is ∙ ap Running c.in-Program.is)
+    (rw c.programs-programs.ensures at (sym c.pushed_all.ensures ∙ c.if-pushed_all.true)))
     (λ c κs. tt)
     (λ c.
-    let m = c.before.before.before.before.before.before.before in
-    let r = m.before.before.before.before.before.before.before.before.before in
-    let a = r.before.before in
-    push_full a.args.s.now a.args.word r.ready-ready.result
-    r.ready-ready.ensures
-    (sym m.before.before.before.before.before.before.before.before.accepts.ensures ∙ not-false _ m.before.before.before.before.before.before.before.if-not-accepts.false)
-    _ _ (sym m.before.before.before.before.before.progress-progress.ensures ∙ m.in-Running.is ∙ ap Running m.in-Program.is)
-    (rw c.before.before.before.before.programs-programs.ensures at (sym c.before.before.before.pushed_all.ensures ∙ c.before.before.if-pushed_all.false))
-    (rw c.before.before.before.before.programs-programs.ensures at (sym c.before.is_full.ensures ∙ c.if-is_full.true)))
-    (λ c κs. leb-false 16 _ (sym c.before.before.is_full.ensures ∙ c.before.if-is_full.false))
+    push_full c.args.s.now c.args.word c.ready-ready.result
+    c.ready-ready.ensures
+    (sym c.accepts.ensures ∙ c.if-not-accepts.false)
+    _ _ (sym c.progress-progress.ensures ∙ c.in-Running.is ∙ ap Running c.in-Program.is)
+    (rw c.programs-programs.ensures at (sym c.pushed_all.ensures ∙ c.if-pushed_all.false))
+    (rw c.programs-programs.ensures at (sym c.is_full.ensures ∙ c.if-is_full.true)))
+    (λ c κs. leb-false 16 _ (sym c.is_full.ensures ∙ c.if-is_full.false))
     (λ c κs. tt)
     (λ c.
-    let m = c.before.before.before.before.before.before.before.before.before.before in
-    let r = m.before.before.before.before.before.before.before.before.before in
-    let a = r.before.before in
-    rw (c.put_programs.ensures, c.before.push.ensures, c.before.before.before.before.before.before.before.programs-programs.ensures)
-    (push_joins a.args.s.now a.args.word r.ready-ready.result
-    r.ready-ready.ensures
-    (sym m.before.before.before.before.before.before.before.before.accepts.ensures ∙ not-false _ m.before.before.before.before.before.before.before.if-not-accepts.false)
-    _ _ (sym m.before.before.before.before.before.progress-progress.ensures ∙ m.in-Running.is ∙ ap Running m.in-Program.is)
-    (rw c.before.before.before.before.before.before.before.programs-programs.ensures at (sym c.before.before.before.before.before.before.pushed_all.ensures ∙ c.before.before.before.before.before.if-pushed_all.false))
-    (rw c.before.before.before.before.before.before.before.programs-programs.ensures at (sym c.before.before.before.before.is_full.ensures ∙ c.before.before.before.if-is_full.false)))))
+    rw (c.put_programs.ensures, c.push.ensures, c.programs-programs.ensures)
+    (push_joins c.args.s.now c.args.word c.ready-ready.result
+    c.ready-ready.ensures
+    (sym c.accepts.ensures ∙ c.if-not-accepts.false)
+    _ _ (sym c.progress-progress.ensures ∙ c.in-Running.is ∙ ap Running c.in-Program.is)
+    (rw c.programs-programs.ensures at (sym c.pushed_all.ensures ∙ c.if-pushed_all.false))
+    (rw c.programs-programs.ensures at (sym c.is_full.ensures ∙ c.if-is_full.false)))))

@@ -9,12 +9,11 @@ use Rattle.rounds.proofs.both_go.Tie as tie
 pub both_go_spec : {M : Type 1} → statement M
 both_go_spec =
     tie.close (tie.spec
-    (λ c κs. c.before.before.before.requires)
-    (λ c κs. c.before.before.before.before.before.before.requires)
+    (λ c κs. c.requires)
+    (λ c κs. c.requires)
     (λ c κs. tt)
     (λ c κs. tt)
     (λ c. search rules)
     (λ c.
-    let p = c.before.before.before.before in
-    rw (c.step_served.ensures, c.before.host_served.ensures, p.before.before.before.Ready-read.ensures)
-    (ap (beside (served_host _)) p.ready_step-told.ensures ∙ left_both _ _ _)))
+    rw (c.step_served.ensures, c.host_served.ensures, c.ready_read-word.ensures)
+    (ap (beside (served_host _)) c.ready_step-told.ensures ∙ left_both _ _ _)))

@@ -9,4 +9,4 @@ both_refused_spec =
     (λ c κs. tt)
     (λ c κs. tt)
     (λ c κs. tt)
-    (λ c. rw (c.step_served.ensures, c.before.host_served.ensures, c.before.before.still-told.ensures, c.before.before.before.told_word-word.ensures)))
+    (λ c. rw (c.step_served.ensures, c.host_served.ensures, c.still-told.ensures, c.told_word-word.ensures)))

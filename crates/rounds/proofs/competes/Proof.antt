@@ -12,11 +12,9 @@ competes_spec =
     (λ c κs. tt)
     (λ c κs. tt)
     (λ c κs.
-    let t = c.before.before.before in
-    let j = t.before.before.requires in
-    record { lent = j.lent; moves = sym (ready_moves _ _ j.ready) ∙ (sym t.before.would_move.ensures ∙ t.if-would_move.true) })
+    let j = c.requires in
+    record { lent = j.lent; moves = sym (ready_moves _ _ j.ready) ∙ (sym c.would_move.ensures ∙ c.if-would_move.true) })
     (λ c.
-    let p = c.before.before.before in
-    rw (c.next_bank.ensures.0, c.before.bank_of-host.ensures.0, c.before.before.page_of.ensures.0, p.pages.ensures)
-    (rw (sym p.before.before.would_move.ensures ∙ p.before.if-would_move.true)))
-    (λ c. rw (sym c.before.would_move.ensures ∙ c.if-would_move.false)))
+    rw (c.next_bank.ensures.0, c.bank_of-host.ensures.0, c.page_of.ensures.0, c.pages.ensures)
+    (rw (sym c.would_move.ensures ∙ c.if-would_move.true)))
+    (λ c. rw (sym c.would_move.ensures ∙ c.if-would_move.false)))

@@ -12,32 +12,32 @@ use Rattle.rounds.proofs.contest.Statement.{statement}
 use Rattle.rounds.proofs.contest.Tie as tie
 
 -- The step would move a word in the bank that was found.
-found : (d : tie.After-next-bank) →
-    let v = d.before.before.before.args in
-    Contested v.s.now (flash v.image-1.now) d.next_bank-bank.result
-found d = record { moves = d.before.before.before.requires; same = d.next_bank-bank.ensures.0; small = d.next_bank-bank.ensures.1 }
+found : (d : tie.After-next_bank-bank) →
+    let v = d.args in
+    Contested v.s.now (flash v.image.now) d.next_bank-bank.result
+found d = record { moves = d.requires; same = d.next_bank-bank.ensures.0; small = d.next_bank-bank.ensures.1 }
 
 -- The lost count of that bank.
-abbrev count : tie.After-next-bank → ℕ
-count d = get_or d.before.before.before.args.s.now (135 + d.next_bank-bank.result) 0
+abbrev count : tie.After-next_bank-bank → ℕ
+count d = get_or d.args.s.now (135 + d.next_bank-bank.result) 0
 
 pub contest_spec : {M : Type 1} → statement M
 contest_spec =
     tie.close (tie.spec
-    (λ c κs. record { lent = _; moves = c.before.before.requires })
+    (λ c κs. record { lent = _; moves = c.requires })
     (λ c. search rules)
-    (λ c κs. c.before.next_bank-bank.ensures.1)
+    (λ c κs. c.next_bank-bank.ensures.1)
     (λ c κs.
-    let i = c.before.before in
-    (found i.before.before.before, lt-ltb (count i.before.before.before) 5 (omega (arith, i.before.lost.ensures, i.if-lost-lt-LOST_LIMIT.true))))
+    let i = c.before in
+    (found i.before.before, lt-ltb (count i.before.before) 5 (omega (arith, i.lost.ensures, i.if-lost-lt-LOST_LIMIT.true))))
     (λ c. search rules)
     (λ c.
-    let i = c.before.before.before in
+    let i = c.before.before in
     c.host_goes.ensures
-    ∙ left_contest_host (found i.before.before.before) _ (lt-ltb (count i.before.before.before) 5 (omega (arith, i.before.lost.ensures, i.if-lost-lt-LOST_LIMIT.true))))
-    (λ c κs. found c.before.before.before.before.before)
+    ∙ left_contest_host (found i.before.before) _ (lt-ltb (count i.before.before) 5 (omega (arith, i.lost.ensures, i.if-lost-lt-LOST_LIMIT.true))))
+    (λ c κs. found c.before.before.before.before)
     (λ c. search rules)
     (λ c.
     let i = c.before.before.before.before.before in
-    c.before.before.step_goes.ensures
-    ∙ left_contest_step (found i.before.before.before) _ (le-ltb (count i.before.before.before) 5 (omega (arith, i.before.lost.ensures, i.if-lost-lt-LOST_LIMIT.false)))))
+    c.step_goes.ensures
+    ∙ left_contest_step (found i.before.before) _ (le-ltb (count i.before.before) 5 (omega (arith, i.lost.ensures, i.if-lost-lt-LOST_LIMIT.false)))))

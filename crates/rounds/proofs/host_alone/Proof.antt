@@ -9,4 +9,4 @@ host_alone_spec =
     (λ c κs. tt)
     (λ c κs. tt)
     (λ c κs. tt)
-    (λ c. rw (c.step_unserved.ensures, c.before.host_served.ensures, c.before.before.host_read-told.ensures) (left_host_alone _ _ _)))
+    (λ c. rw (c.step_unserved.ensures, c.host_served.ensures, c.host_read-told.ensures) (left_host_alone _ _ _)))

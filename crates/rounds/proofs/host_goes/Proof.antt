@@ -10,15 +10,13 @@ use Rattle.rounds.proofs.host_goes.Tie as tie
 pub host_goes_spec : {M : Type 1} → statement M
 host_goes_spec =
     tie.close (tie.spec
-    (λ c κs. going_ready _ _ c.before.before.requires.contested.moves)
-    (λ c κs. omega (arith, c.before.before.before.before.requires.contested.small))
+    (λ c κs. going_ready _ _ c.requires.0.moves)
+    (λ c κs. omega (arith, c.requires.0.small))
     (λ c.
-    let a = c.before.before.before.before.before.before in
-    rw c.before.lost-lost.ensures (omega (arith, ltb-true (get_or a.args.s.now (135 + a.args.bank) 0) 5 a.requires.1)))
-    (λ c κs. omega (arith, c.before.before.before.before.before.before.requires.contested.small))
+    rw c.lost-lost.ensures (omega (arith, ltb-true (get_or c.args.s.now (135 + c.args.bank) 0) 5 c.requires.1)))
+    (λ c κs. omega (arith, c.requires.0.small))
     (λ c κs. tt)
     (λ c κs. tt)
     (λ c.
-    let l = c.before.before.before.before in
-    rw (c.step_unserved.ensures, c.before.host_served.ensures, c.before.before.put_lost.ensures, l.lost-lost.ensures, l.before.before.Ready-read.ensures)
-    (left_host_goes l.before.before.before.before.before.requires.0 _)))
+    rw (c.step_unserved.ensures, c.host_served.ensures, c.put_lost.ensures, c.lost-lost.ensures, c.ready_read-told.ensures)
+    (left_host_goes c.requires.0 _)))

@@ -11,12 +11,12 @@ next_bank_spec =
     (λ c κs. tt)
     (λ c κs. tt)
     (λ c κs.
-    let p = going_place c.before.before.before.requires in
-    rw (c.before.operation-op.ensures, c.before.before.pages-d.ensures) (p.0, p.1, p.2, omega (arith, p.3, c.moved-moved.ensures)))
+    let p = going_place c.requires in
+    rw (c.operation-op.ensures, c.pages-d.ensures) (p.0, p.1, p.2, omega (arith, p.3, c.moved-moved.ensures)))
     (λ c κs. tt)
     (λ c.
-    let o = c.before.before.before in (
-      rw (c.bank_of_word.ensures.0, c.before.place_of.ensures, c.before.before.moved-moved.ensures, o.operation-op.ensures, o.before.pages-d.ensures)
-          (going_bank o.before.before.requires),
+    let o = c in (
+      rw (c.bank_of_word.ensures.0, c.place_of.ensures, c.moved-moved.ensures, o.operation-op.ensures, o.pages-d.ensures)
+          (going_bank o.requires),
       c.bank_of_word.ensures.1,
     )))

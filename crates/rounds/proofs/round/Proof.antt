@@ -1,6 +1,5 @@
 -- `rounds::round` meets its contract. Assumes nothing.
 use borrow.Author.Rules.{rules}
-use borrow.Author.Tests.{not-true, not-false}
 use Rattle.model.specs.Rounds.{round}
 use Rattle.calls.specs.Calls.{round_in}
 use Rattle.rounds.proofs.round.Statement.{statement}
@@ -14,16 +13,15 @@ round_spec =
     (λ c. search rules)
     (λ c κs. tt)
     (λ c. search rules)
-    (λ c. rw (c.in_default.is, c.before.before.before.before.before.if-step.true) c.before.before.step_alone.ensures)
+    (λ c. rw (c.in_default.is, c.if-step.true) c.step_alone.ensures)
     (λ c κs. tt)
     (λ c κs. tt)
-    (λ c. rw (c.step_unserved.ensures, c.before.host_unserved.ensures, c.in_default.is, c.before.before.if-step.false))
+    (λ c. rw (c.step_unserved.ensures, c.host_unserved.ensures, c.in_default.is, c.if-step.false))
     (λ c κs. tt)
     (λ c. search rules)
-    (λ c. rw (c.in-Word.is, not-true c.before.before.before.before.before.before.before.before.args.step c.before.before.before.if-not-step.true) c.host_alone.ensures)
+    (λ c. rw (c.in-Word.is, c.if-not-step.true) c.host_alone.ensures)
     (λ c κs. tt)
     (λ c. search rules)
     (λ c.
-    let n = c.before.before.before.before.before in
-    rw (n.in-Word.is, not-false n.before.before.before.before.before.args.step n.if-not-step.false)
-    c.before.before.both_asked.ensures))
+    rw (c.in-Word.is, c.if-not-step.false)
+    c.both_asked.ensures))

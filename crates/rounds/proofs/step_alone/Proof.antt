@@ -13,4 +13,4 @@ step_alone_spec =
     (λ c κs. tt)
     (λ c κs. tt)
     (λ c. search rules)
-    (λ c. rw (c.step_served.ensures, c.before.host_unserved.ensures) (ap (beside (unserved_host 0)) c.before.before.before.before.step-told.ensures ∙ left_alone _ _)))
+    (λ c. rw (c.step_served.ensures, c.host_unserved.ensures) (ap (beside (unserved_host 0)) c.step-told.ensures ∙ left_alone _ _)))

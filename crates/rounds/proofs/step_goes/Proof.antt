@@ -9,12 +9,11 @@ use Rattle.rounds.proofs.step_goes.Tie as tie
 pub step_goes_spec : {M : Type 1} → statement M
 step_goes_spec =
     tie.close (tie.spec
-    (λ c κs. going_ready _ _ c.before.before.before.requires.moves)
-    (λ c κs. omega (arith, c.before.before.before.before.before.before.before.requires.small))
+    (λ c κs. going_ready _ _ c.requires.moves)
+    (λ c κs. omega (arith, c.requires.small))
     (λ c κs. tt)
     (λ c κs. tt)
     (λ c. search rules)
     (λ c.
-    let p = c.before.before.before.before.before.before in
-    rw (c.step_served.ensures, c.before.host_unserved.ensures, c.before.before.put_lost.ensures)
-    (ap (instead _) p.ready_step-told.ensures ∙ left_step_goes p.before.before.before.before.requires)))
+    rw (c.step_served.ensures, c.host_unserved.ensures, c.put_lost.ensures)
+    (ap (instead _) c.ready_step-told.ensures ∙ left_step_goes c.requires)))

@@ -12,8 +12,7 @@ would_move_spec =
     (λ c κs. tt)
     (λ c. search rules)
     (λ c. search rules)
-    (λ c. rw (sym c.before.before.progress-progress.ensures ∙ c.in_default.is))
+    (λ c. rw (sym c.progress-progress.ensures ∙ c.in_default.is))
     (λ c κs. tt)
     (λ c.
-    let p = c.before.before.before.before in
-    ap not c.stalls-waits.ensures ∙ ap (goes _) (sym c.in-Running.is ∙ p.progress-progress.ensures)))
+    ap not c.stalls-waits.ensures ∙ ap (goes _) (sym c.in-Running.is ∙ c.progress-progress.ensures)))

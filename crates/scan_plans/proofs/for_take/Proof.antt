@@ -10,27 +10,14 @@ pub for_take_spec : {M : Type 1} → statement M
 for_take_spec =
     tie.close
     (tie.spec
-    (λ c κs. let g = c.before.requires in (omega (arith, g.apart, g.inside), g.inside))
+    (λ c κs. let g = c.requires in (omega (arith, g.apart, g.inside), g.inside))
     (λ c.
-    let t = c.before.before in
-    let s = t.before.before in
-    none_waits_lem s.args.image.now s.args.a s.args.b s.requires t.survey_both-s.result t.survey_both-s.ensures (not-true _ c.if-not-s.true))
+    none_waits_lem c.args.image.now c.args.a c.args.b c.requires c.survey_both-s.result c.survey_both-s.ensures (not-true _ c.if-not-s.true))
     (λ c κs.
-    let t = c.before.before in
-    let s = t.before.before in
-    oldest_inside s.args.image.now s.args.a s.args.b s.requires t.survey_both-s.result t.survey_both-s.ensures (not-false _ c.if-not-s.false))
+    oldest_inside c.args.image.now c.args.a c.args.b c.requires c.survey_both-s.result c.survey_both-s.ensures (not-false _ c.if-not-s.false))
     (λ c. search rules)
     (λ c. search rules)
     (λ c.
-    let p = c.before.before in
-    let e = p.before in
-    let t = e.before.before in
-    let s = t.before.before in
-    absurd (never s.args.image.now s.args.a s.args.b s.requires t.survey_both-s.result t.survey_both-s.ensures (not-false _ e.if-not-s.false) p.payload_at-body.result p.payload_at-body.ensures c.in_default.is))
+    absurd (never c.args.image.now c.args.a c.args.b c.requires c.survey_both-s.result c.survey_both-s.ensures (not-false _ c.if-not-s.false) c.payload_at-body.result c.payload_at-body.ensures c.in_default.is))
     (λ c.
-    let f = c.before.body-1.given in
-    let p = c.before.before.before in
-    let e = p.before in
-    let t = e.before.before in
-    let s = t.before.before in
-    found_taken s.args.image.now s.args.a s.args.b s.requires t.survey_both-s.result t.survey_both-s.ensures (not-false _ e.if-not-s.false) p.payload_at-body.result p.payload_at-body.ensures f.0.0 f.1))
+    found_taken c.args.image.now c.args.a c.args.b c.requires c.survey_both-s.result c.survey_both-s.ensures (not-false _ c.if-not-s.false) c.payload_at-body.result c.payload_at-body.ensures c.in-Whole.found c.in-Whole.is))

@@ -46,7 +46,7 @@ returns_5 c =
     }
 
 -- else, after that at the higher one, it is erased or the queue is full.
-high_looked : (v : tie.After-survey-page2)
+high_looked : (v : tie.After-survey_page-high)
     → let a = v.before.before.before.before.before.before.before.before.before.before.before.before.before.args in
     let serial = v.before.before.before.before.before.before.before.before.survey_both-s.result.highest + 1 in
     let decided = write a.image.now a.a a.b a.bytes.now in

@@ -5,7 +5,7 @@ use mathlib.Core.Path.{ap}
 use mathlib.Core.Bool.{not}
 use borrow.Author.Tests.{ne_eqb}
 use Rattle.registers.specs.Registers.{is_on}
-use Rattle.slots.specs.Code.{payloadBytes}
+use Rattle.slots.specs.Code.{payload_bytes}
 use Rattle.slots.proofs.Reading.{payload_long}
 use Rattle.scans.proofs.HandedOut.{told_scan, mark_cut, mark_scan}
 use borrow.Author.Rules.{rules}
@@ -25,9 +25,9 @@ returns_2 c =
     let b = y.before.before in
     let s = b.before.before.before in
     let a = s.args in
-    let inside : a.found.start + a.found.count ≤ length (payloadBytes a.image-1.now a.p) = rw (payload_long a.image-1.now a.p) s.requires.3 in
+    let inside : a.found.start + a.found.count ≤ length (payload_bytes a.image-1.now a.p) = rw (payload_long a.image-1.now a.p) s.requires.3 in
     mark_scan _ _ _ z.zero-m.ensures _
-    (told_scan a.found.serial a.found.start a.found.count (payloadBytes a.image-1.now a.p) _ inside (rw b.payload_bytes-payload.ensures at y.scan_bytes-bytes.ensures))
+    (told_scan a.found.serial a.found.start a.found.count (payload_bytes a.image-1.now a.p) _ inside (rw b.payload_bytes-payload.ensures at y.scan_bytes-bytes.ensures))
     (ap is_on c.if-m-ne0.false)
 
 pub hand_out_spec : {M : Type 1} → statement M

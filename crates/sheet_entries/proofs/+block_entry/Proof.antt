@@ -51,93 +51,72 @@ pub +block_entry_spec : {M : Type 1} → statement M
     (λ c. search rules)
     (λ c. search rules)
     (λ c.
-    let n = c.before.before in
-    let a = n.before.before.args in
+    let a = c.args in
     let e = c.in_default.is in
-    e ∙ block_bad a.s.now a.at a.depth _ (sym e ∙ n.number-tag.ensures))
+    e ∙ block_bad a.s.now a.at a.depth _ (sym e ∙ c.number-tag.ensures))
     (λ c.
-    let t = c.before.before in
-    let n = t.before.before in
-    let a = n.before.before.args in
-    let e = sym t.in-Number.is ∙ n.number-tag.ensures in
+    let a = c.args in
+    let e = sym c.in-Number.is ∙ c.number-tag.ensures in
     block_done a.s.now a.at a.depth _ _ e c.if-value-eq0.true)
     (λ c κs.
-    let t = c.before.before in
-    let n = t.before.before in
-    let a = n.before.before.args in
-    let e = sym t.in-Number.is ∙ n.number-tag.ensures in
+    let a = c.args in
+    let e = sym c.in-Number.is ∙ c.number-tag.ensures in
     let h = number_falls a.s.now a.at a.depth _ _ e in
     (omega arith, tt))
     (λ c. search rules)
     (λ c. search rules)
     (λ c.
-    let t = c.before.before.before.before.before in
-    let n = t.before.before in
-    let a = n.before.before.args in
-    let e = sym t.in-Number.is ∙ n.number-tag.ensures in
+    let a = c.args in
+    let e = sym c.in-Number.is ∙ c.number-tag.ensures in
     let f = c.in_default-first.is in
-    f ∙ block_stops a.s.now a.at a.depth _ _ _ e c.before.before.before.if-value-eq0.false (sym f ∙ c.before.before.entry-first.ensures))
+    f ∙ block_stops a.s.now a.at a.depth _ _ _ e c.if-value-eq0.false (sym f ∙ c.entry-first.ensures))
     (λ c κs.
-    let t = c.before.before.before.before.before.before in
-    let n = t.before.before in
-    let a = n.before.before.args in
-    let e = sym t.in-Number.is ∙ n.number-tag.ensures in
-    let f = sym c.in-Number-first.is ∙ c.before.before.before.entry-first.ensures in
+    let a = c.args in
+    let e = sym c.in-Number.is ∙ c.number-tag.ensures in
+    let f = sym c.in-Number-first.is ∙ c.entry-first.ensures in
     let h = number_falls a.s.now a.at a.depth _ _ e in
     let g = entry_past a.s.now a.at _ _ a.depth _ _ f in
     (omega arith, tt))
     (λ c κs. tt)
     (λ c.
-    let t = c.before.before.before.before.before.before.before.before in
-    let n = t.before.before in
-    let a = n.before.before.args in
-    let e = sym t.in-Number.is ∙ n.number-tag.ensures in
-    let i = c.before.before.before in
-    let f = sym i.in-Number-first.is ∙ i.before.before.entry-first.ensures in
-    c.added.ensures ∙ ap (added_to _) c.before.block.ensures ∙ block_goes a.s.now a.at a.depth _ _ _ _ e i.before.before.before.if-value-eq0.false f))
+    let a = c.args in
+    let e = sym c.in-Number.is ∙ c.number-tag.ensures in
+    let f = sym c.in-Number-first.is ∙ c.entry-first.ensures in
+    c.added.ensures ∙ ap (added_to _) c.block.ensures ∙ block_goes a.s.now a.at a.depth _ _ _ _ e c.if-value-eq0.false f))
     (λ t. entry_lts.spec (stated_at_reads.Asked, stated_at_reads.Learnt, once_reads.Asked, once_reads.Learnt, number_to_reads.Asked, number_to_reads.Learnt, block_below t, block.Post, times_reads.Asked, times_reads.Learnt)
     (entry_at t)
     entry.Post
     (λ c κs. tt)
     (λ c κs. tt)
     (λ c.
-    let i = c.before.before in
-    let a = i.before.before.args in
-    c.once.ensures ∙ ap (λ (o : Stated). once_counted o.end) c.before.stated_at-stated.ensures ∙ entry_one a.s.now a.at a.next a.tag-1 a.depth i.if-value-eq0.true)
+    let a = c.args in
+    c.once.ensures ∙ ap (λ (o : Stated). once_counted o.end) c.stated_at-stated.ensures ∙ entry_one a.s.now a.at a.next a.tag a.depth c.if-tag-eq-OPERATION.true)
     (λ c κs. tt)
     (λ c κs. tt)
     (λ c.
-    let i = c.before.before in
-    let a = i.before.before.before.args in
-    c.once-then-tag-eq-RIGHTS.ensures ∙ ap once_counted c.before.number_to.ensures ∙ entry_three a.s.now a.at a.next a.tag-1 a.depth i.if-tag-eq-RIGHTS.true)
+    let a = c.args in
+    c.once-then-tag-eq-RIGHTS.ensures ∙ ap once_counted c.number_to.ensures ∙ entry_three a.s.now a.at a.next a.tag a.depth c.if-tag-eq-RIGHTS.true)
     (λ c κs. tt)
     (λ c. search rules)
     (λ c. search rules)
     (λ c.
-    let n = c.before.before in
-    let a = n.before.before.before.before.before.before.args in
+    let a = c.args in
     let e = c.in_default.is in
-    e ∙ entry_bad a.s.now a.at a.next a.tag-1 a.depth _ n.before.before.if-tag-eq-REPEAT.true n.before.if-depth-lt-MAX_DEPTH.true (sym e ∙ n.number_to-count.ensures))
+    e ∙ entry_bad a.s.now a.at a.next a.tag a.depth _ c.if-tag-eq-REPEAT.true (omega arith) (sym e ∙ c.number_to-count.ensures))
     (λ c.
-    let k = c.before.before in
-    let n = k.before.before in
-    let a = n.before.before.before.before.before.before.args in
-    let e = sym k.in-Number.is ∙ n.number_to-count.ensures in
-    entry_zero a.s.now a.at a.next a.tag-1 a.depth _ _ n.before.before.if-tag-eq-REPEAT.true n.before.if-depth-lt-MAX_DEPTH.true e c.if-value-eq0.true)
+    let a = c.args in
+    let e = sym c.in-Number.is ∙ c.number_to-count.ensures in
+    entry_zero a.s.now a.at a.next a.tag a.depth _ _ c.if-tag-eq-REPEAT.true (omega arith) e c.if-value-eq0.true)
     (λ c. omega arith)
     (λ c κs.
-    let k = c.before.before in
-    let n = k.before.before in
-    let a = n.before.before.before.before.before.before.args in
-    let e = sym k.in-Number.is ∙ n.number_to-count.ensures in
-    let h = count_falls a.s.now a.at a.next a.tag-1 a.depth _ _ e in
+    let a = c.args in
+    let e = sym c.in-Number.is ∙ c.number_to-count.ensures in
+    let h = count_falls a.s.now a.at a.next a.tag a.depth _ _ e in
     (omega arith, tt))
     (λ c κs. tt)
     (λ c.
-    let k = c.before.before.before.before in
-    let n = k.before.before in
-    let a = n.before.before.before.before.before.before.args in
-    let e = sym k.in-Number.is ∙ n.number_to-count.ensures in
-    c.times.ensures ∙ ap (times_of _) c.before.block.ensures ∙ entry_times a.s.now a.at a.next a.tag-1 a.depth _ _ n.before.before.if-tag-eq-REPEAT.true n.before.if-depth-lt-MAX_DEPTH.true e c.before.before.if-value-eq0.false)
-    (λ c. let a = c.before.before.before.before.before.args in entry_deep a.s.now a.at a.next a.tag-1 a.depth c.before.if-tag-eq-REPEAT.true c.if-depth-lt-MAX_DEPTH.false)
-    (λ c. let a = c.before.before.before.before.args in entry_none a.s.now a.at a.next a.tag-1 a.depth c.before.before.if-value-eq0.false c.before.if-tag-eq-RIGHTS.false c.if-tag-eq-REPEAT.false))
+    let a = c.args in
+    let e = sym c.in-Number.is ∙ c.number_to-count.ensures in
+    c.times.ensures ∙ ap (times_of _) c.block.ensures ∙ entry_times a.s.now a.at a.next a.tag a.depth _ _ c.if-tag-eq-REPEAT.true (omega arith) e c.if-value-eq0.false)
+    (λ c. let a = c.args in entry_deep a.s.now a.at a.next a.tag a.depth c.if-tag-eq-REPEAT.true (omega arith))
+    (λ c. let a = c.args in entry_none a.s.now a.at a.next a.tag a.depth c.if-tag-eq-OPERATION.false c.if-tag-eq-RIGHTS.false c.if-tag-eq-REPEAT.false))

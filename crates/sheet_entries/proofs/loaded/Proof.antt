@@ -32,7 +32,7 @@ loaded_spec =
     (λ c. omega arith)
     (λ c.
     let l = c.before.before.before.loop-i in
-    (omega arith, l.invariant.1, loading_more l.invariant.2 c.before.then_number-last.ensures c.value_of_lem.ensures))
+    (omega arith, l.invariant.1, loading_more l.invariant.2 c.before.then_number-last.ensures c.value_of.ensures))
     (λ c.
     let l = c.before.loop-i in
     let a = c.before.before.before.before.args in

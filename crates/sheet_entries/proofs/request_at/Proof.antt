@@ -26,7 +26,7 @@ request_at_spec =
       c.before.number_to.ensures,
       t.before.next_of-next.ensures,
       ← t.before.before.number-tag.ensures,
-      ← t.value_of_lem.ensures,
+      ← t.value_of-sort.ensures,
       eq-eqb _ _ c.before.before.if-sort-eq-RIGHTS.true,
     ) refl)
     (λ c κs. tt)
@@ -35,7 +35,7 @@ request_at_spec =
     let t = e.before.before in
     rw (
       ← t.before.before.number-tag.ensures,
-      ← t.value_of_lem.ensures,
+      ← t.value_of-sort.ensures,
       ne_eqb _ _ e.before.if-sort-eq-RIGHTS.false,
       ← t.before.next_of-next.ensures,
       ← e.stated_at-stated.ensures,

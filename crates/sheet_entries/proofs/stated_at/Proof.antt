@@ -25,7 +25,7 @@ stated_at_spec =
     (λ c κs. tt)
     (λ c.
     let v = c.before.before.before.before.before in
-    let h : v.value_of_lem.result ≤ 255 = rw (v.value_of_lem.ensures, v.before.before.before.before.before.number_to-kind.ensures) (number_to_small _ 255 _) in
+    let h : v.value_of-k.result ≤ 255 = rw (v.value_of-k.ensures, v.before.before.before.before.before.number_to-kind.ensures) (number_to_small _ 255 _) in
     omega arith)
     (λ c.
     let v = c.before.before.before.before in
@@ -49,7 +49,7 @@ stated_at_spec =
       x.before.before.value_of-a.ensures,
       x.before.before.before.value_of-i.ensures,
       x.before.before.before.before.value_of-p.ensures,
-      v.value_of_lem.ensures,
+      v.value_of-k.ensures,
       v.before.then_number-count.ensures,
       v.before.before.then_number-address.ensures,
       v.before.before.before.then_number-info.ensures,

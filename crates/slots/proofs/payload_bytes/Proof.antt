@@ -3,13 +3,13 @@ use Prim.Native.Nat.{◌≤◌, ◌-◌, ◌<◌}
 use native.Mathlib.Omega.{arith}
 use borrow.Author.Rules.{rules}
 use lib.ListN.{length}
-use Rattle.slots.specs.Code.{payloadBytes}
+use Rattle.slots.specs.Code.{payload_bytes}
 use Rattle.slots.proofs.Reading.{payload_long, Copied, copied_none, copied_turn, copied_end}
 use Rattle.slots.proofs.payload_bytes.Statement.{statement}
 use Rattle.slots.proofs.payload_bytes.Tie as tie
 
 abbrev invariant_loop : tie.invariant-loop-i
-invariant_loop image p bytes₀ i₀ bytes i = (i ≤ 56) × Copied bytes (payloadBytes image p) i
+invariant_loop image p bytes₀ i₀ bytes i = (i ≤ 56) × Copied bytes (payload_bytes image p) i
 
 abbrev decreases_loop : tie.decreases-loop-i
 decreases_loop image p bytes₀ i₀ bytes i = 56 - i
@@ -18,14 +18,14 @@ loop_again : tie.Need-loop-i-preserved invariant_loop decreases_loop
 loop_again c =
     let l = c.before.before in
     let a = l.before.before.args in
-    let inside : l.loop-i.i < length (payloadBytes a.image.now a.p) = rw (payload_long a.image.now a.p) (omega arith) in
-    (omega arith, copied_turn l.loop-i.bytes (payloadBytes a.image.now a.p) l.loop-i.i c.byte_at-b.result l.loop-i.invariant.1 inside c.byte_at-b.ensures.0)
+    let inside : l.loop-i.i < length (payload_bytes a.image.now a.p) = rw (payload_long a.image.now a.p) (omega arith) in
+    (omega arith, copied_turn l.loop-i.bytes (payload_bytes a.image.now a.p) l.loop-i.i c.byte_at-b.result l.loop-i.invariant.1 inside c.byte_at-b.ensures.0)
 
 returns : tie.Need-returns invariant_loop decreases_loop
 returns c =
     let l = c.before in
     let a = l.before.before.args in
-    copied_end l.loop-i.bytes (payloadBytes a.image.now a.p) l.loop-i.i l.loop-i.invariant.1 (rw (payload_long a.image.now a.p) (omega arith))
+    copied_end l.loop-i.bytes (payload_bytes a.image.now a.p) l.loop-i.i l.loop-i.invariant.1 (rw (payload_long a.image.now a.p) (omega arith))
 
 pub payload_bytes_spec : {M : Type 1} → statement M
 payload_bytes_spec =

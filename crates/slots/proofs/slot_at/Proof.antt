@@ -11,43 +11,40 @@ use Rattle.slots.proofs.slot_at.Tie as tie
 
 returns : tie.Need-returns-then-mark
 returns c =
-    let a = c.before.before.before.before.before.before.before.before.before.args in
-    let h = c.before.before.before.before.payload_at in
-    let f = c.before.before.f-1.given in
-    let e = slot_whole a.image.now a.p c.before.before.before.before.before.before.if-image-p-eq0.true h.result h.ensures f.0.0 f.1 in
+    let a = c.args in
+    let h = c.payload_at in
+    let e = slot_whole a.image.now a.p c.if-image-p-eq0.true h.result h.ensures c.in-Whole.f c.in-Whole.is in
     sym (e ∙ simp (eq-eqb (get_or a.image.now (a.p + 1) 0) blank c.if-mark.true))
 
 returns_2 : tie.Need-returns-then-mark-eq0
 returns_2 c =
-    let a = c.before.before.before.before.before.before.before.before.before.before.args in
-    let h = c.before.before.before.before.before.payload_at in
-    let f = c.before.before.before.f-1.given in
-    let e = slot_whole a.image.now a.p c.before.before.before.before.before.before.before.if-image-p-eq0.true h.result h.ensures f.0.0 f.1 in
-    sym (e ∙ simp (ne_eqb (get_or a.image.now (a.p + 1) 0) blank c.before.if-mark.false, eq-eqb (get_or a.image.now (a.p + 1) 0) 0 c.if-mark-eq0.true))
+    let a = c.args in
+    let h = c.payload_at in
+    let e = slot_whole a.image.now a.p c.if-image-p-eq0.true h.result h.ensures c.in-Whole.f c.in-Whole.is in
+    sym (e ∙ simp (ne_eqb (get_or a.image.now (a.p + 1) 0) blank c.if-mark.false, eq-eqb (get_or a.image.now (a.p + 1) 0) 0 c.if-mark-eq0.true))
 
 returns_3 : tie.Need-returns-then-blank_words
 returns_3 c =
-    let a = c.before.before.before.before.before.args in
-    sym (slot_open a.image.now a.p c.before.before.if-image-p-eq0.false ∙ simp (← c.before.blank_words.ensures, c.if-blank_words.true))
+    let a = c.args in
+    sym (slot_open a.image.now a.p c.if-image-p-eq0.false ∙ simp (← c.blank_words.ensures, c.if-blank_words.true))
 
 returns_4 : tie.Need-returns-in-Broken
 returns_4 c =
-    let a = c.before.before.before.before.before.before.before.args in
-    let h = c.before.before.payload_at in
-    sym (slot_broken a.image.now a.p c.before.before.before.before.if-image-p-eq0.true h.result h.ensures c.in-Broken.is)
+    let a = c.args in
+    let h = c.payload_at in
+    sym (slot_broken a.image.now a.p c.if-image-p-eq0.true h.result h.ensures c.in-Broken.is)
 
 returns_5 : tie.Need-returns-else-mark-eq0
 returns_5 c =
-    let a = c.before.before.before.before.before.before.before.before.before.before.args in
-    let h = c.before.before.before.before.before.payload_at in
-    let f = c.before.before.before.f-1.given in
-    let e = slot_whole a.image.now a.p c.before.before.before.before.before.before.before.if-image-p-eq0.true h.result h.ensures f.0.0 f.1 in
-    sym (e ∙ simp (ne_eqb (get_or a.image.now (a.p + 1) 0) blank c.before.if-mark.false, ne_eqb (get_or a.image.now (a.p + 1) 0) 0 c.if-mark-eq0.false))
+    let a = c.args in
+    let h = c.payload_at in
+    let e = slot_whole a.image.now a.p c.if-image-p-eq0.true h.result h.ensures c.in-Whole.f c.in-Whole.is in
+    sym (e ∙ simp (ne_eqb (get_or a.image.now (a.p + 1) 0) blank c.if-mark.false, ne_eqb (get_or a.image.now (a.p + 1) 0) 0 c.if-mark-eq0.false))
 
 returns_6 : tie.Need-returns-else-blank_words
 returns_6 c =
-    let a = c.before.before.before.before.before.args in
-    sym (slot_open a.image.now a.p c.before.before.if-image-p-eq0.false ∙ simp (← c.before.blank_words.ensures, c.if-blank_words.false))
+    let a = c.args in
+    sym (slot_open a.image.now a.p c.if-image-p-eq0.false ∙ simp (← c.blank_words.ensures, c.if-blank_words.false))
 
 pub slot_at_spec : {M : Type 1} → statement M
 slot_at_spec =

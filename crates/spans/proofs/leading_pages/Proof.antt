@@ -1,7 +1,6 @@
 -- `spans::leading_pages` meets its contract. Assumes nothing.
 use Prim.Native.Nat.{◌≤◌, ◌-◌}
 use mathlib.Core.Path.{sym, ◌∙◌}
-use borrow.Author.Tests.{not-true, not-false}
 use borrow.Author.Rules.{rules}
 use Rattle.model.specs.Rights.{page_grants}
 use Rattle.model.proofs.Rights.{Passed, passed_none, passed_more, passed_until, passed_all}
@@ -23,8 +22,8 @@ leading_pages_spec =
     (λ c. (search rules, passed_none))
     (λ c. search rules)
     (λ c κs. tt)
-    (λ c. (passed_until (search rules) c.before.before.before.before.loop-i.invariant.1 (sym c.before.page_grants.ensures ∙ not-true _ c.if-not-page_grants.true), search rules))
+    (λ c. (passed_until (search rules) c.before.before.before.before.loop-i.invariant.1 (sym c.before.page_grants.ensures ∙ c.if-not-page_grants.true), search rules))
     (λ c. search rules)
     (λ c. search rules)
-    (λ c. (search rules, passed_more (search rules) c.before.before.before.before.loop-i.invariant.1 (sym c.before.page_grants.ensures ∙ not-false _ c.if-not-page_grants.false)))
+    (λ c. (search rules, passed_more (search rules) c.before.before.before.before.loop-i.invariant.1 (sym c.before.page_grants.ensures ∙ c.if-not-page_grants.false)))
     (λ c. (passed_all (search rules) c.before.loop-i.invariant.1, search rules)))

@@ -11,10 +11,10 @@ use Rattle.spans.proofs.right_answer.Statement.{statement}
 use Rattle.spans.proofs.right_answer.Tie as tie
 
 -- What is left is the span of a read, a program or a page erase, with some words and not too many.
-span : (d : tie.Else1) → is_bank_erase d.before.before.args.o ≡ false
+span : (d : tie.Else-is_bank_erase) → is_bank_erase d.before.before.args.o ≡ false
 span d = sym d.before.is_bank_erase.ensures ∙ d.if-is_bank_erase.false
 
-few : (d : tie.Else1) → let o = d.before.before.args.o in (1 ≤ span_words o) × (span_words o ≤ 1024)
+few : (d : tie.Else-is_bank_erase) → let o = d.before.before.args.o in (1 ≤ span_words o) × (span_words o ≤ 1024)
 few d = span_words_bound _ d.before.before.requires (span d)
 
 pub right_answer_spec : {M : Type 1} → statement M

@@ -10,13 +10,11 @@ advance_erase_spec =
     tie.close (tie.spec
     (λ c κs. tt)
     (λ c κs. tt)
-    (λ c κs. rw c.before.pages-d.ensures (moves_place c.before.before.before.before.requires))
-    (λ c κs. rw (c.before.place_of-place.ensures, c.before.before.before.pages-d.ensures) (moves_inside c.before.before.before.before.before.before.requires))
-    (λ c κs. moves_small c.before.before.before.before.before.before.before.before.before.before.requires)
+    (λ c κs. rw c.pages-d.ensures (moves_place c.requires))
+    (λ c κs. rw (c.place_of-place.ensures, c.pages-d.ensures) (moves_inside c.requires))
+    (λ c κs. moves_small c.requires)
     (λ c. search rules)
     (λ c.
-    let p = c.before.before.before.before in
-    let a = p.before.before.before.before.before.before.before in
-    rw (c.moved.ensures.value, c.moved.ensures.s_after, p.erase_word-changed.ensures.value.0, p.erase_word-changed.ensures.image_after)
-    (rw (p.before.before.place_of-place.ensures, p.before.before.before.total_words-n.ensures, p.before.before.before.before.pages-d.ensures)
-    (sym (left_erase a.args.s.now _ a.args.op a.args.k a.requires)))))
+    rw (c.moved.ensures.0, c.moved.ensures.1, c.erase_word-changed.ensures.0.0, c.erase_word-changed.ensures.1)
+    (rw (c.place_of-place.ensures, c.total_words-n.ensures, c.pages-d.ensures)
+    (sym (left_erase c.args.s.now _ c.args.op c.args.k c.requires)))))

@@ -10,22 +10,20 @@ advance_program_spec =
     tie.close (tie.spec
     (λ c κs. tt)
     (λ c κs. tt)
-    (λ c κs. rw c.before.pages-d.ensures (moves_place c.before.before.before.before.requires))
+    (λ c κs. rw c.pages-d.ensures (moves_place c.requires))
     (λ c κs. tt)
-    (λ c κs. rw c.programs-programs.ensures (program_waits c.before.before.before.before.before.before.before.requires))
-    (λ c κs. rw (c.before.before.before.before.place_of-place.ensures, c.before.before.before.before.before.before.pages-d.ensures) (moves_inside c.before.before.before.before.before.before.before.before.before.requires))
-    (λ c κs. rw c.before.before.before.before.before.before.programs-programs.ensures (program_waits c.before.before.before.before.before.before.before.before.before.before.before.before.before.requires))
+    (λ c κs. rw c.programs-programs.ensures (program_waits c.requires))
+    (λ c κs. rw (c.place_of-place.ensures, c.pages-d.ensures) (moves_inside c.requires))
+    (λ c κs. rw c.programs-programs.ensures (program_waits c.requires))
     (λ c κs. tt)
-    (λ c κs. moves_small c.before.before.before.before.before.before.before.before.before.before.before.before.before.before.before.before.requires)
+    (λ c κs. moves_small c.requires)
     (λ c. search rules)
     (λ c.
-    let p = c.before.before.before.before.before.before.before in
-    let a = p.before.before.before.before.before.before.before.before.before.before in
-    rw (c.moved.ensures.value, c.moved.ensures.s_after, c.before.before.put_programs.ensures, c.before.before.before.pop.ensures, p.program_word-bits.ensures.value.0)
-    (rw (p.program_word-bits.ensures.image_after, p.before.before.oldest-word.ensures, p.before.before.before.programs-programs.ensures)
+    rw (c.moved.ensures.0, c.moved.ensures.1, c.put_programs.ensures, c.pop.ensures, c.program_word-bits.ensures.0.0)
+    (rw (c.program_word-bits.ensures.1, c.oldest-word.ensures, c.programs-programs.ensures)
     (rw (
-      p.before.before.before.before.before.place_of-place.ensures,
-      p.before.before.before.before.before.before.total_words-n.ensures,
-      p.before.before.before.before.before.before.before.pages-d.ensures,
+      c.place_of-place.ensures,
+      c.total_words-n.ensures,
+      c.pages-d.ensures,
     )
-    (sym (left_program a.args.s.now _ a.args.op a.args.k a.requires))))))
+    (sym (left_program c.args.s.now _ c.args.op c.args.k c.requires))))))

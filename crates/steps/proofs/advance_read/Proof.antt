@@ -9,15 +9,13 @@ advance_read_spec =
     tie.close (tie.spec
     (λ c κs. tt)
     (λ c κs. tt)
-    (λ c κs. rw c.before.pages-d.ensures (moves_place c.before.before.before.before.requires))
-    (λ c κs. rw (c.place_of-place.ensures, c.before.before.pages-d.ensures) (moves_inside c.before.before.before.before.before.requires))
+    (λ c κs. rw c.pages-d.ensures (moves_place c.requires))
+    (λ c κs. rw (c.place_of-place.ensures, c.pages-d.ensures) (moves_inside c.requires))
     (λ c κs. tt)
-    (λ c κs. rw c.before.reads-reads.ensures (read_room c.before.before.before.before.before.before.before.before.before.requires))
+    (λ c κs. rw c.reads-reads.ensures (read_room c.requires))
     (λ c κs. tt)
-    (λ c κs. moves_small c.before.before.before.before.before.before.before.before.before.before.before.before.requires)
+    (λ c κs. moves_small c.requires)
     (λ c.
-    let p = c.before.before.before.before.before.before.before in
-    let a = p.before.before.before.before.before.before in
-    rw (c.moved.ensures.value, c.moved.ensures.s_after, c.before.before.put_reads.ensures, c.before.before.before.push.ensures, c.before.before.before.before.before.reads-reads.ensures)
-    (rw (p.read_word-word.ensures, p.before.place_of-place.ensures, p.before.before.total_words-n.ensures, p.before.before.before.pages-d.ensures)
-    (sym (left_read a.args.s.now _ a.args.op a.args.k a.args.readable a.requires)))))
+    rw (c.moved.ensures.0, c.moved.ensures.1, c.put_reads.ensures, c.push.ensures, c.reads-reads.ensures)
+    (rw (c.read_word-word.ensures, c.place_of-place.ensures, c.total_words-n.ensures, c.pages-d.ensures)
+    (sym (left_read c.args.s.now _ c.args.op c.args.k c.args.readable c.requires)))))

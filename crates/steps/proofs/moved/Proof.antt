@@ -9,7 +9,7 @@ moved_spec =
     tie.close (tie.spec
     (λ c. search rules)
     (λ c κs. tt)
-    (λ c. let e = eq-eqb _ _ c.before.before.if-k-n.true in (simp e, simp (c.no_progress.ensures, e)))
+    (λ c. let e = eq-eqb _ _ c.if-k-n.true in (simp e, simp (c.no_progress.ensures, e)))
     (λ c. search rules)
     (λ c κs. tt)
-    (λ c. let e = ne_eqb _ _ c.before.before.if-k-n.false in (simp e, simp (c.put_moved.ensures, e))))
+    (λ c. let e = ne_eqb _ _ c.if-k-n.false in (simp e, simp (c.put_moved.ensures, e))))

@@ -13,26 +13,18 @@ ready_step_spec =
     (λ c. search rules)
     (λ c κs. tt)
     (λ c.
-    let p = c.before.before.before in
-    rw c.still.ensures (step_nothing _ _ p.before.before.before.requires (sym p.progress-progress.ensures ∙ c.in_default.is)))
+    rw c.still.ensures (step_nothing _ _ c.requires (sym c.progress-progress.ensures ∙ c.in_default.is)))
     (λ c κs. tt)
     (λ c κs. tt)
     (λ c.
-    let w = c.before.before.before.before.before in
-    let p = w.before.before in
     rw c.still-then-stalls.ensures
-    (step_waits _ _ p.before.before.before.requires _ (sym p.progress-progress.ensures ∙ w.in-Running.is)
-    (sym c.before.before.stalls.ensures ∙ c.before.if-stalls.true)))
+    (step_waits _ _ c.requires _ (sym c.progress-progress.ensures ∙ c.in-Running.is)
+    (sym c.stalls.ensures ∙ c.if-stalls.true)))
     (λ c κs.
-    let w = c.before.before.before.before.before.before in
-    let p = w.before.before in
-    step_moves _ _ p.before.before.before.requires _ (sym p.progress-progress.ensures ∙ w.in-Running.is)
-    (sym c.before.before.before.stalls.ensures ∙ c.before.before.if-stalls.false))
+    step_moves _ _ c.requires _ (sym c.progress-progress.ensures ∙ c.in-Running.is)
+    (sym c.stalls.ensures ∙ c.if-stalls.false))
     (λ c. search rules)
     (λ c.
-    let t = c.before.before.before.before.before in
-    let w = t.before.before.before.before in
-    let p = w.before.before in
-    rw c.before.before.advance.ensures
-    (step_goes _ _ p.before.before.before.requires _ (sym p.progress-progress.ensures ∙ w.in-Running.is)
-    (sym t.before.stalls.ensures ∙ t.if-stalls.false))))
+    rw c.advance.ensures
+    (step_goes _ _ c.requires _ (sym c.progress-progress.ensures ∙ c.in-Running.is)
+    (sym c.stalls.ensures ∙ c.if-stalls.false))))

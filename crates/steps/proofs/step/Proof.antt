@@ -1,6 +1,5 @@
 -- `steps::step` meets its contract. Assumes nothing.
 use mathlib.Core.Path.{sym, ◌∙◌}
-use borrow.Author.Tests.{not-true, not-false}
 use borrow.Author.Rules.{rules}
 use Rattle.model.specs.State.{flash}
 use Rattle.steps.proofs.Left.{step_early}
@@ -15,12 +14,10 @@ step_spec =
     (λ c κs. tt)
     (λ c. search rules)
     (λ c.
-    let r = c.before.before.before in
-    let a = r.before.before.before.before in
     rw c.still.ensures
-    (step_early a.args.s.now (flash a.args.image-1.now) r.ready_with-ready.result
-    r.ready_with-ready.ensures
-    (sym c.before.before.accepts.ensures ∙ not-true _ c.before.if-not-accepts.true)))
-    (λ c κs. rw c.before.before.before.before.ready_with-ready.ensures at (sym c.before.before.before.accepts.ensures ∙ not-false _ c.before.before.if-not-accepts.false))
+    (step_early c.args.s.now (flash c.args.image.now) c.ready_with-ready.result
+    c.ready_with-ready.ensures
+    (sym c.accepts.ensures ∙ c.if-not-accepts.true)))
+    (λ c κs. rw c.ready_with-ready.ensures at (sym c.accepts.ensures ∙ c.if-not-accepts.false))
     (λ c. search rules)
-    (λ c. c.before.before.ready_step.ensures))
+    (λ c. c.ready_step.ensures))

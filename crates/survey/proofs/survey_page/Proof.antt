@@ -4,7 +4,7 @@ use Prim.Native.Nat.{ℕ, ◌≤◌, ◌+◌, ◌*◌, ◌-◌}
 use native.Mathlib.Omega.{arith}
 use lib.ListN.{drop}
 use Rattle.scan_queue.specs.Slots.{slots_from, Slot, slot_at}
-use Rattle.slots.specs.Code.{payloadBytes}
+use Rattle.slots.specs.Code.{payload_bytes}
 use Rattle.survey.specs.Survey.{surveyed, saw}
 use Rattle.survey.proofs.Surveying.{all_seen, one_seen, saw_same}
 use Rattle.survey.proofs.survey_page.Statement.{statement}
@@ -26,7 +26,7 @@ loop_again c =
     let h = c.before.slot_at-c in
     let p : ℕ = a.q + 16 * (l.loop-j.j - 1) in (
       omega arith,
-      c.saw_class-t.ensures ∙ saw_same p (payloadBytes a.image.now p) h.result l.loop-j.t
+      c.saw_class-t.ensures ∙ saw_same p (payload_bytes a.image.now p) h.result l.loop-j.t
           ∙ ap (λ (x : Slot). saw p x l.loop-j.t) h.ensures ∙ ap (saw p (slot_at a.image.now p)) l.loop-j.invariant.1
           ∙ sym (one_seen a.image.now a.q (l.loop-j.j - 1) l.loop-j.j a.s (omega arith) (omega arith)),
     )

@@ -28,21 +28,20 @@ arranged true false a e n = and-false (a && e)
 read_asked : (s : Setup) (q : Queue) (o : Operation) (moved readable : ℕ)
     → work_fits s q (Read o moved readable)
     ≡ ((is_read o && ((accepts (operation_answer s o) || is_denied (operation_answer s o)) && eqb readable (readable_words s o)))
-    && (ltb moved (total_words s.pages-d o) && is_empty q))
+    && (ltb moved (total_words s.pages o) && is_empty q))
 unfolding work_fits
 read_asked s q o moved readable =
-    sym (arranged (is_read o) (ltb moved (total_words s.pages-d o)) (accepts (operation_answer s o) || is_denied (operation_answer s o)) (eqb readable (readable_words s o)) (is_empty q))
+    sym (arranged (is_read o) (ltb moved (total_words s.pages o)) (accepts (operation_answer s o) || is_denied (operation_answer s o)) (eqb readable (readable_words s o)) (is_empty q))
 
 returns : tie.Need-returns-in-Read
 unfolding stands_for
 returns c =
-    let m = c.before.before.before in
     rw (
       c.read_fits-fits.ensures,
-      c.before.total_words.ensures,
-      m.in-Read.is,
-      m.before.before.program_count-queued.ensures,
-      m.before.before.before.pages-d.ensures,
+      c.total_words.ensures,
+      c.in-Read.is,
+      c.program_count-queued.ensures,
+      c.pages-d.ensures,
       read_asked,
     )
 
@@ -54,22 +53,21 @@ regrouped true false a p = and-false a
 
 program_asked : (s : Setup) (q : Queue) (o : Operation) (moved : ℕ)
     → work_fits s q (Program o moved)
-    ≡ ((is_program o && accepts (operation_answer s o)) && (ltb moved (total_words s.pages-d o) && leb (moved + q.len) o.count))
+    ≡ ((is_program o && accepts (operation_answer s o)) && (ltb moved (total_words s.pages o) && leb (moved + q.len) o.count))
 unfolding work_fits
 program_asked s q o moved =
-    sym (regrouped (is_program o) (ltb moved (total_words s.pages-d o)) (accepts (operation_answer s o)) (leb (moved + q.len) o.count))
+    sym (regrouped (is_program o) (ltb moved (total_words s.pages o)) (accepts (operation_answer s o)) (leb (moved + q.len) o.count))
 
 returns_2 : tie.Need-returns-in-Program
 unfolding stands_for
 returns_2 c =
-    let m = c.before.before.before.before in
     rw (
       c.pushed_fits-pushed.ensures,
-      c.before.program_fits-fits.ensures,
-      c.before.before.total_words-in-Program.ensures,
-      m.in-Program.is,
-      m.before.before.program_count-queued.ensures,
-      m.before.before.before.pages-d.ensures,
+      c.program_fits-fits.ensures,
+      c.total_words-in-Program.ensures,
+      c.in-Program.is,
+      c.program_count-queued.ensures,
+      c.pages-d.ensures,
       program_asked,
     )
 
@@ -97,13 +95,13 @@ work_fits_spec =
     (λ c κs. tt)
     returns
     returns_2
-    (λ c. let m = c.before.before.before.before.before.before in rw (
+    (λ c. rw (
       c.accepts-accepted.ensures,
-      c.before.operation_answer.ensures,
-      c.before.before.total_words-in-Erase.ensures,
-      c.before.before.before.is_bank_erase-bank.ensures,
-      c.before.before.before.before.is_page_erase-page.ensures,
-      m.in-Erase.is,
-      m.before.before.program_count-queued.ensures,
-      m.before.before.before.pages-d.ensures,
+      c.operation_answer.ensures,
+      c.total_words-in-Erase.ensures,
+      c.is_bank_erase-bank.ensures,
+      c.is_page_erase-page.ensures,
+      c.in-Erase.is,
+      c.program_count-queued.ensures,
+      c.pages-d.ensures,
     )))

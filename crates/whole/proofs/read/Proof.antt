@@ -7,8 +7,8 @@ pub read_spec : {M : Type 1} → statement M
 read_spec =
     tie.close (tie.spec
     (λ c κs. tt)
-    (λ c κs. rw c.before.pages.ensures c.before.before.before.before.before.requires)
+    (λ c κs. rw c.pages.ensures c.requires)
     (λ c κs. tt)
     (λ c κs. tt)
     (λ c. search rules)
-    (λ c. (rw (c.put_reads.ensures, c.before.empty.ensures), rw (c.before.before.before.before.before.read.ensures, c.before.before.before.before.before.before.before.pages.ensures))))
+    (λ c. (rw (c.put_reads.ensures, c.empty.ensures), rw (c.read.ensures, c.pages.ensures))))

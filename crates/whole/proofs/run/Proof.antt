@@ -1,7 +1,6 @@
 -- `whole::run` meets its contract. Assumes nothing.
 use mathlib.Core.Path.{◌≡◌, sym, ◌∙◌}
 use mathlib.Core.Bool.{true}
-use borrow.Author.Tests.{not-true, not-false}
 use borrow.Author.Rules.{rules}
 use Rattle.model.specs.State.{flash}
 use Rattle.model.specs.Refusals.{accepts}
@@ -13,42 +12,31 @@ use Rattle.whole.proofs.run.Tie as tie
 
 returns : tie.Need-returns-then-not-accepts
 returns c =
-    let t = c.before in
-    let a = t.before.before.before.before.before.before.before.args in
+    let a = c.args in
     rw c.told.ensures
-    (run_refused a.s.now (flash a.image-1.now) a.o a.buffer-1.now _ t.before.before.whole_answer-first.ensures
-    (sym t.before.accepts.ensures ∙ not-true _ t.if-not-accepts.true))
-
--- Past the first test, checks 1 to 4 passed.
-free : (c : tie.Else1) → let a = c.before.before.before.before.before.before.before.args in accepts (whole_answer (decode a.s.now) (flash a.image-1.now)) ≡ true
-free c = rw c.before.before.whole_answer-first.ensures at (sym c.before.accepts.ensures ∙ not-false _ c.if-not-accepts.false)
+    (run_refused a.s.now (flash a.image.now) a.o a.buffer.now _ c.whole_answer-first.ensures
+    (sym c.accepts.ensures ∙ c.if-not-accepts.true))
 
 returns_2 : tie.Need-returns-then-short_buffer
 returns_2 c =
-    let t = c.before in
-    let e = t.before.before.before in
-    let a = e.before.before.before.before.before.before.before.args in
+    let a = c.args in
     rw c.told-then-short_buffer.ensures
-    (run_short a.s.now (flash a.image-1.now) a.o a.buffer-1.now (free e) (sym t.before.short_buffer.ensures ∙ t.if-short_buffer.true))
+    (run_short a.s.now (flash a.image.now) a.o a.buffer.now (rw c.whole_answer-first.ensures at (sym c.accepts.ensures ∙ c.if-not-accepts.false)) (sym c.short_buffer.ensures ∙ c.if-short_buffer.true))
 
 answered_requires : tie.Need-answered-requires
 unfolding stands_for
 answered_requires c κs =
-    let t = c.before.before.before.before.before in
-    let e = t.before.before.before in
-    let a = e.before.before.before.before.before.before.before.args in (
-      admitted a.s.now (flash a.image-1.now) a.o a.buffer-1.now (free e) (sym t.before.short_buffer.ensures ∙ t.if-short_buffer.false),
-      c.before.before.before.operation_answer-answer.ensures,
+    let a = c.args in (
+      admitted a.s.now (flash a.image.now) a.o a.buffer.now (rw c.whole_answer-first.ensures at (sym c.accepts.ensures ∙ c.if-not-accepts.false)) (sym c.short_buffer.ensures ∙ c.if-short_buffer.false),
+      c.operation_answer-answer.ensures,
     )
 
 returns_3 : tie.Need-returns
 unfolding stands_for
 returns_3 c =
-    let t = c.before.before.before.before.before.before.before.before.before.before in
-    let e = t.before.before.before in
-    let a = e.before.before.before.before.before.before.before.args in
-    rw c.before.before.before.before.before.before.before.before.operation_answer-answer.ensures at c.before.before.before.before.answered.ensures
-    ∙ run_answered a.s.now (flash a.image-1.now) a.o a.buffer-1.now (free e) (sym t.before.short_buffer.ensures ∙ t.if-short_buffer.false)
+    let a = c.args in
+    rw c.operation_answer-answer.ensures at c.answered.ensures
+    ∙ run_answered a.s.now (flash a.image.now) a.o a.buffer.now (rw c.whole_answer-first.ensures at (sym c.accepts.ensures ∙ c.if-not-accepts.false)) (sym c.short_buffer.ensures ∙ c.if-short_buffer.false)
 
 pub run_spec : {M : Type 1} → statement M
 run_spec =

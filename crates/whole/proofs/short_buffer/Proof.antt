@@ -11,4 +11,4 @@ short_buffer_spec =
     (λ c κs. tt)
     (λ c κs. tt)
     (λ c. search rules)
-    (λ c. rw (c.before.uses_count-counts.ensures, c.before.before.accepts-formed.ensures, c.before.before.before.form_answer.ensures, formed)))
+    (λ c. rw (c.uses_count-counts.ensures, c.accepts-formed.ensures, c.form_answer.ensures, formed)))

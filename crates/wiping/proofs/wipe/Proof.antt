@@ -25,4 +25,4 @@ wipe_spec =
       b.erase_range-3.ensures,
       d.erase_range-2.ensures,
       e.erase_range.ensures,
-    ) (wiped_ranges s.args.d s.args.image-1.now s.requires)))
+    ) (wiped_ranges s.args.d s.args.image.now s.requires)))
