@@ -16,75 +16,34 @@ use Rattle.driving.proofs.drive.Tie as tie
 
 returns : tie.Need-returns-then-not-accepts
 returns c =
-    let t = c.before in
-    let a = t.before.before.before.before.before.before.before.args in
+    let a = c.args in
     rw c.unmoved.ensures
-    (drive_refused a.steps a.s.now (flash a.image-1.now) a.o a.buffer-1.now _ t.before.before.whole_answer-first.ensures
-    (sym t.before.accepts.ensures ∙ t.if-not-accepts.true))
-
--- Past the first test, checks 1 to 4 passed;
-free : (e : tie.Else-not-accepts) → let a = e.before.before.before.before.before.before.before.args in accepts (whole_answer (decode a.s.now) (flash a.image-1.now)) ≡ true
-free e = rw e.before.before.whole_answer-first.ensures at (sym e.before.accepts.ensures ∙ e.if-not-accepts.false)
+    (drive_refused a.steps a.s.now (flash a.image.now) a.o a.buffer.now _ c.whole_answer-first.ensures
+    (sym c.accepts.ensures ∙ c.if-not-accepts.true))
 
 returns_2 : tie.Need-returns-then-short_buffer
 returns_2 c =
-    let t = c.before in
-    let e = t.before.before.before in
-    let a = e.before.before.before.before.before.before.before.args in
+    let a = c.args in
     rw c.unmoved-then-short_buffer.ensures
-    (drive_short a.steps a.s.now (flash a.image-1.now) a.o a.buffer-1.now (free e) (sym t.before.short_buffer.ensures ∙ t.if-short_buffer.true))
-
--- past the second, 6.
-room : (u : tie.Else-short_buffer) → let a = u.before.before.before.before.before.before.before.before.before.before.args in short_buffer a.o a.buffer-1.now ≡ false
-room u = sym u.before.short_buffer.ensures ∙ u.if-short_buffer.false
+    (drive_short a.steps a.s.now (flash a.image.now) a.o a.buffer.now (rw c.whole_answer-first.ensures at (sym c.accepts.ensures ∙ c.if-not-accepts.false)) (sym c.short_buffer.ensures ∙ c.if-short_buffer.true))
 
 returns_3 : tie.Need-returns-then-not-starts
 returns_3 c =
-    let u = c.before.before.before.before.before.before in
-    let e = u.before.before.before in
-    let a = e.before.before.before.before.before.before.before.args in
-    drive_stops a.steps a.s.now (flash a.image-1.now) a.o a.buffer-1.now (free e) (room u) _ c.before.before.start-told.ensures
-    (sym c.before.starts.ensures ∙ c.if-not-starts.true)
-
--- Past the third, it has started.
-go : (x : tie.Else-not-starts) → starts_by x.before.before.before.before.before.before.before.before.before.before.before.before.before.before.before.before.args.o x.before.before.start-told.result.answer ≡ true
-go x = sym x.before.starts.ensures ∙ x.if-not-starts.false
-
-all : (t : tie.After-total_words-total)
-    → let a = t.before.before.before.before.before.before.before.before.before.before.before.before.before.before.before.before.before.args in
-    t.total_words-total.result ≡ total_words (setup_of a.s.now).pages-d a.o
-all t = rw t.before.before.before.before.before.pages-d.ensures at t.total_words-total.ensures
-
-few : (t : tie.After-total_words-total) → t.total_words-total.result ≤ 131072
-few t =
-    let x = t.before in
-    let u = x.before.before.before.before.before.before in
-    let e = u.before.before.before in
-    let a = e.before.before.before.before.before.before.before.args in
-    few_total a.steps a.s.now (flash a.image-1.now) a.o a.buffer-1.now (free e) (room u) _ x.before.before.start-told.ensures (go x) _ (all t)
+    let a = c.args in
+    drive_stops a.steps a.s.now (flash a.image.now) a.o a.buffer.now (rw c.whole_answer-first.ensures at (sym c.accepts.ensures ∙ c.if-not-accepts.false)) (sym c.short_buffer.ensures ∙ c.if-short_buffer.false) _ c.start-told.ensures
+    (sym c.starts.ensures ∙ c.if-not-starts.true)
 
 turns_requires : tie.Need-turns-bits-requires
 turns_requires c κs =
-    let n = c.before.before.before in
-    let t = n.before in
-    let x = t.before in
-    let u = x.before.before.before.before.before.before in
-    let e = u.before.before.before in
-    let a = e.before.before.before.before.before.before.before.args in
-    (has_room a.steps a.s.now (flash a.image-1.now) a.o a.buffer-1.now (free e) (room u) _ x.before.before.start-told.ensures (go x) _ (all t) _ (omega (arith, n.fewer-n.ensures)), omega (arith, n.fewer-n.ensures, few t))
+    let a = c.args in
+    (has_room a.steps a.s.now (flash a.image.now) a.o a.buffer.now (rw c.whole_answer-first.ensures at (sym c.accepts.ensures ∙ c.if-not-accepts.false)) (sym c.short_buffer.ensures ∙ c.if-short_buffer.false) _ c.start-told.ensures (sym c.starts.ensures ∙ c.if-not-starts.false) _ (rw c.pages-d.ensures at c.total_words-total.ensures) _ (omega (arith, c.fewer-n.ensures)), omega (arith, c.fewer-n.ensures, (let a = c.args in few_total a.steps a.s.now (flash a.image.now) a.o a.buffer.now (rw c.whole_answer-first.ensures at (sym c.accepts.ensures ∙ c.if-not-accepts.false)) (sym c.short_buffer.ensures ∙ c.if-short_buffer.false) _ c.start-told.ensures (sym c.starts.ensures ∙ c.if-not-starts.false) _ (rw c.pages-d.ensures at c.total_words-total.ensures))))
 
 returns_4 : tie.Need-returns
 returns_4 c =
-    let r = c.before.before.before.before.before in
-    let n = r.before.before.before.before in
-    let t = n.before in
-    let x = t.before in
-    let u = x.before.before.before.before.before.before in
-    let e = u.before.before.before in
-    let a = e.before.before.before.before.before.before.before.args in
+    let a = c.args in
     rw c.flag_of.ensures.0
-    (drive_goes a.steps a.s.now (flash a.image-1.now) a.o a.buffer-1.now (free e) (room u) _ x.before.before.start-told.ensures (go x) _ (all t) _ n.fewer-n.ensures
-    (record { registers = r.turns-bits.new.0; flash = flash r.turns-bits.new.1.0; buffer = r.turns-bits.new.1.1.1.0; bits = r.turns-bits.result }) r.turns-bits.ensures)
+    (drive_goes a.steps a.s.now (flash a.image.now) a.o a.buffer.now (rw c.whole_answer-first.ensures at (sym c.accepts.ensures ∙ c.if-not-accepts.false)) (sym c.short_buffer.ensures ∙ c.if-short_buffer.false) _ c.start-told.ensures (sym c.starts.ensures ∙ c.if-not-starts.false) _ (rw c.pages-d.ensures at c.total_words-total.ensures) _ c.fewer-n.ensures
+    (record { registers = c.turns-bits.new.s; flash = flash c.turns-bits.new.image; buffer = c.turns-bits.new.buffer; bits = c.turns-bits.result }) c.turns-bits.ensures)
 
 pub drive_spec : {M : Type 1} → statement M
 drive_spec =
@@ -107,10 +66,10 @@ drive_spec =
     (λ c. search rules)
     returns_3
     (λ c κs. tt)
-    (λ c. omega (arith, few c))
+    (λ c. omega (arith, (let a = c.args in few_total a.steps a.s.now (flash a.image.now) a.o a.buffer.now (rw c.whole_answer-first.ensures at (sym c.accepts.ensures ∙ c.if-not-accepts.false)) (sym c.short_buffer.ensures ∙ c.if-short_buffer.false) _ c.start-told.ensures (sym c.starts.ensures ∙ c.if-not-starts.false) _ (rw c.pages-d.ensures at c.total_words-total.ensures))))
     (λ c κs. tt)
     turns_requires
-    (λ c. let n = c.before.before.before.before.before.before.before.before in omega (arith, n.fewer-n.ensures))
+    (λ c. omega (arith, c.fewer-n.ensures))
     (λ c κs. tt)
     (λ c. search rules)
     (λ c. search rules)

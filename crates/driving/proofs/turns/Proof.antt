@@ -21,29 +21,25 @@ decreases_loop s₀ image₀ o buffer₀ n bits₀ k₀ s image buffer bits k = 
 
 turn_requires : tie.Need-turn-bits-requires invariant_loop decreases_loop
 turn_requires c κs =
-    let l = c.before.before.before.before in
-    let s = l.before.before.before in
-    (next_room l.loop-k.k _ s.requires.0 l.loop-k.invariant.3 (omega arith), omega (arith, s.requires.1, l.loop-k.invariant.1))
+    (next_room c.loop-k.k _ c.requires.0 c.loop-k.invariant.3 (omega arith), omega (arith, c.requires.1, c.loop-k.invariant.1))
 
 loop_again : tie.Need-loop-k-preserved invariant_loop decreases_loop
-loop_again c =
-    let t = c.before.before.before.before in
-    let l = t.before.before.before.before.before in (
-      omega arith,
-      omega (arith, t.turn-bits.ensures.1, l.loop-k.invariant.1),
-      c.before.before.before.image-1.given ∙ l.loop-k.invariant.2,
-      c.before.buffer-1.given ∙ l.loop-k.invariant.3,
-      turns_more _ _ _ _ _ l.loop-k.invariant.4 t.turn-bits.ensures.0,
-    )
+loop_again c = (
+  omega arith,
+  omega (arith, c.turn-bits.ensures.1, c.loop-k.invariant.1),
+  c.image-1.given ∙ c.loop-k.invariant.2,
+  c.buffer-1.given ∙ c.loop-k.invariant.3,
+  turns_more _ _ _ _ _ c.loop-k.invariant.4 c.turn-bits.ensures.0,
+)
 
 same_length : tie.Need-shape_of-image invariant_loop decreases_loop
-same_length c = c.before.loop-k.invariant.2
+same_length c = c.loop-k.invariant.2
 
 same_length_2 : tie.Need-shape_of-buffer invariant_loop decreases_loop
-same_length_2 c = c.before.loop-k.invariant.3
+same_length_2 c = c.loop-k.invariant.3
 
 returns : tie.Need-returns invariant_loop decreases_loop
-returns c = turns_end _ _ _ _ _ c.before.loop-k.invariant.4 (omega arith)
+returns c = turns_end _ _ _ _ _ c.loop-k.invariant.4 (omega arith)
 
 pub turns_spec : {M : Type 1} → statement M
 turns_spec =

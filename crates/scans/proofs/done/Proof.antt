@@ -11,27 +11,23 @@ use Rattle.scans.proofs.done.Tie as tie
 
 put_requires : tie.Need-put-requires
 put_requires c κs =
-    let s = c.before.before.before.before.before.before.before in
-    let i = subst (λ (x : WritePlan). Inside s.args.image-1.now s.args.bytes.now x) c.in-Puts.is s.requires.0 in
-    (omega (arith, i.0, s.requires.1), i.1, i.2)
+    let i = subst (λ (x : WritePlan). Inside c.args.image.now c.args.bytes.now x) c.in-Puts.is c.requires.0 in
+    (omega (arith, i.0, c.requires.1), i.1, i.2)
 
 erase_and_put_requires : tie.Need-erase_and_put-requires
 erase_and_put_requires c κs =
-    let s = c.before.before.before.before.before.before.before in
-    let i = subst (λ (x : WritePlan). Inside s.args.image-1.now s.args.bytes.now x) c.in-Erases.is s.requires.0 in
-    (omega (arith, i.0, s.requires.1), i.1, i.2)
+    let i = subst (λ (x : WritePlan). Inside c.args.image.now c.args.bytes.now x) c.in-Erases.is c.requires.0 in
+    (omega (arith, i.0, c.requires.1), i.1, i.2)
 
 returns_2 : tie.Need-returns-in-Puts
 unfolding jobs
 returns_2 c =
-    let p = c.before.before.before in
-    rw (c.written.ensures, p.in-Puts.is) (ap (write_told 0) p.put.ensures)
+    rw (c.written.ensures, c.in-Puts.is) (ap (write_told 0) c.put.ensures)
 
 returns_3 : tie.Need-returns-in-Erases
 unfolding jobs
 returns_3 c =
-    let p = c.before.before.before in
-    rw (c.written-in-Erases.ensures, p.in-Erases.is) (ap (write_told 0) p.erase_and_put.ensures)
+    rw (c.written-in-Erases.ensures, c.in-Erases.is) (ap (write_told 0) c.erase_and_put.ensures)
 
 pub done_spec : {M : Type 1} → statement M
 unfolding jobs jobs_in

@@ -21,19 +21,13 @@ erase_and_put_spec =
     (λ c κs. tt)
     (λ c. search rules)
     (λ c.
-    let t = c.before.before.before.before.before in
-    let o = t.before.before.before.before in
-    let a = o.before.before.before.before.args in
-    cut_job _ _ _ (erase_job a.d a.q) _ (rw (o.page_erase-o.ensures, o.before.address.ensures) at t.drive-told.ensures) (ap not (ne_eqb _ 0 c.if-told-ne0.true))
+    let a = c.args in
+    cut_job _ _ _ (erase_job a.d a.q) _ (rw (c.page_erase-o.ensures, c.address.ensures) at c.drive-told.ensures) (ap not (ne_eqb _ 0 c.if-told-ne0.true))
     (fill_job a.d a.q (scan_with a.serial a.bytes.now) ∷ zero_job a.d a.q ∷ []))
     (λ c κs. search rules)
     (λ c. search rules)
     (λ c.
-    let z = c.before.before in
-    let e = c.before.before.before.before.before in
-    let t = e.before.before.before.before.before in
-    let o = t.before.before.before.before in
-    let a = o.before.before.before.before.args in
-    z.put.ensures
-    ∙ next_job _ _ _ (erase_job a.d a.q) _ (rw (o.page_erase-o.ensures, o.before.address.ensures) at t.drive-told.ensures) (ap is_on e.if-told-ne0.false)
+    let a = c.args in
+    c.put.ensures
+    ∙ next_job _ _ _ (erase_job a.d a.q) _ (rw (c.page_erase-o.ensures, c.address.ensures) at c.drive-told.ensures) (ap is_on c.if-told-ne0.false)
     (fill_job a.d a.q (scan_with a.serial a.bytes.now) ∷ zero_job a.d a.q ∷ [])))

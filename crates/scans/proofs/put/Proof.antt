@@ -23,21 +23,13 @@ put_spec =
     (λ c κs. tt)
     (λ c. search rules)
     (λ c.
-    let t = c.before.before.before.before.before in
-    let o = t.before.before.before.before in
-    let w = o.before.before in
-    let a = w.before.before.before.args in
+    let a = c.args in
     cut_job _ _ _ (fill_job a.d a.p (scan_with a.serial a.bytes.now)) _
-    (rw (o.program-o.ensures, o.before.address.ensures, w.payload_words-words.ensures) at t.drive-told.ensures) (ap not (ne_eqb _ 0 c.if-told-ne0.true)) (zero_job a.d a.p ∷ []))
+    (rw (c.program-o.ensures, c.address.ensures, c.payload_words-words.ensures) at c.drive-told.ensures) (ap not (ne_eqb _ 0 c.if-told-ne0.true)) (zero_job a.d a.p ∷ []))
     (λ c κs. search rules)
     (λ c. search rules)
     (λ c.
-    let z = c.before.before in
-    let e = c.before.before.before.before.before in
-    let t = e.before.before.before.before.before in
-    let o = t.before.before.before.before in
-    let w = o.before.before in
-    let a = w.before.before.before.args in
-    z.zero.ensures
+    let a = c.args in
+    c.zero.ensures
     ∙ next_job _ _ _ (fill_job a.d a.p (scan_with a.serial a.bytes.now)) _
-    (rw (o.program-o.ensures, o.before.address.ensures, w.payload_words-words.ensures) at t.drive-told.ensures) (ap is_on e.if-told-ne0.false) (zero_job a.d a.p ∷ [])))
+    (rw (c.program-o.ensures, c.address.ensures, c.payload_words-words.ensures) at c.drive-told.ensures) (ap is_on c.if-told-ne0.false) (zero_job a.d a.p ∷ [])))

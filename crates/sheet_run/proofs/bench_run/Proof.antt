@@ -14,7 +14,5 @@ bench_run_spec =
     (λ c. search rules)
     (λ c κs. tt)
     (λ c.
-    let r = c.before in
-    let i = r.before.before.before.before in
-    let a = i.before.before.before.before.before.before.args in
-    bench_runs a.sheet.now a.row.now _ _ i.before.before.before.reset.ensures _ _ i.initialise.ensures _ r.run.ensures))
+    let a = c.args in
+    bench_runs a.sheet.now a.row.now _ _ c.reset.ensures _ _ c.initialise.ensures _ c.run.ensures))

@@ -18,11 +18,7 @@ perform_spec =
     (λ c. search rules)
     (λ c κs. tt)
     (λ c.
-    let q = c.before.before.before in
-    rw (← q.before.before.request_at-request.ensures, q.in-Rights.is, ← c.set_default.ensures) refl)
+    rw (← c.request_at-request.ensures, c.in-Rights.is, ← c.set_default.ensures) refl)
     (λ c. search rules)
     (λ c.
-    let r = c.before.before.before in
-    let l = r.before.before.before.before in
-    let q = l.before.before in
-    rw (← q.before.before.request_at-request.ensures, q.in-Whole.is, ← l.loaded-buffer.ensures, ← r.run-told.ensures) refl))
+    rw (← c.request_at-request.ensures, c.in-Whole.is, ← c.loaded-buffer.ensures, ← c.run-told.ensures) refl))

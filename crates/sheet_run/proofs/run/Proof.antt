@@ -28,37 +28,30 @@ run_spec =
     (λ c. search rules)
     (λ c. search rules)
     (λ c.
-    let j = c.before.before in
-    let a = j.before.before.before.args in
-    rw c.in_default.is (run_bad a.sheet.now a.s.now (flash a.image-1.now) a.row.now _ (sym c.in_default.is ∙ j.judge-verdict.ensures)))
+    let a = c.args in
+    rw c.in_default.is (run_bad a.sheet.now a.s.now (flash a.image.now) a.row.now _ (sym c.in_default.is ∙ c.judge-verdict.ensures)))
     (λ c κs.
-    let v = c.before.before in
-    good_room _ _ (sym v.in-Good.is ∙ v.before.before.judge-verdict.ensures))
+    good_room _ _ (sym c.in-Good.is ∙ c.judge-verdict.ensures))
     (λ c.
-    let v = c.before.before.before in
-    (omega arith, runs_few _ _ (sym v.in-Good.is ∙ v.before.before.judge-verdict.ensures), refl, running_none))
+    (omega arith, runs_few _ _ (sym c.in-Good.is ∙ c.judge-verdict.ensures), refl, running_none))
     (λ c. search rules)
     (λ c. omega arith)
     (λ c. omega arith)
     (λ c κs. tt)
-    (λ c κs. let q = c.before.before.before.before.before.before.before.loop-i.invariant.3.few in omega arith)
+    (λ c κs. let q = c.loop-i.invariant.3.few in omega arith)
     (λ c. omega arith)
     (λ c. omega arith)
     (λ c.
-    let p = c.before.before.before.before in
-    let l = p.before.before.before.before in
-    let v = l.before.before.before.before in
-    let e = sym v.in-Good.is ∙ v.before.before.judge-verdict.ensures in
-    let i = l.loop-i.i in
-    let h = p.before.before.before.loop-i-test.true in
-    let at = runs_at _ _ e l.before.expand.ensures i h in (
+    let e = sym c.in-Good.is ∙ c.judge-verdict.ensures in
+    let i = c.loop-i.i in
+    let h = c.loop-i-test.true in
+    let at = runs_at _ _ e c.expand.ensures i h in (
       omega arith,
-      l.loop-i.invariant.1,
-      c.before.before.before.image-1.given ∙ l.loop-i.invariant.2,
-      running_more (runs_there _ _ e i h) l.loop-i.invariant.3 p.perform-line.result (rw at at p.perform-line.ensures) c.write-n.ensures.0 c.write-n.ensures.1,
+      c.loop-i.invariant.1,
+      c.image-1.given ∙ c.loop-i.invariant.2,
+      running_more (runs_there _ _ e i h) c.loop-i.invariant.3 c.perform-line.result (rw at at c.perform-line.ensures) c.write-n.ensures.0 c.write-n.ensures.1,
     ))
-    (λ c. let q = c.before.loop-i.invariant.3.few in omega arith)
+    (λ c. let q = c.loop-i.invariant.3.few in omega arith)
     (λ c. search rules)
     (λ c.
-    let v = c.before.before.before.before.before in
-    run_good _ _ (sym v.in-Good.is ∙ v.before.before.judge-verdict.ensures) (omega arith) c.before.loop-i.invariant.3))
+    run_good _ _ (sym c.in-Good.is ∙ c.judge-verdict.ensures) (omega arith) c.loop-i.invariant.3))
