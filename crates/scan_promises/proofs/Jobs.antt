@@ -46,6 +46,7 @@ pub jobs_run : (S : Setup) (js : List Job) (ts : List Step) → AllRun S js ts �
 unfolding jobs_in run
 jobs_run S [] [] none zero s f g = refl
 jobs_run S [] [] none (suc n) s f g = refl
+jobs_run S [] (_ ∷ _) rs n s f g = elim rs [ ]
 jobs_run S (j ∷ js) us (more {ss = ss} {ts = ts} r rs) n s f g =
     let one = r n s f g in
     ⊎_elim

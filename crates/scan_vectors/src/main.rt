@@ -2,8 +2,8 @@
 // different banks. Scans are 7, 8, 9 and so on, as many bytes as a line says.
 #![tactic(auto)]
 
-use libc::STDOUT_FILENO;
 use registers::Registers;
+use std::io;
 
 const PAGES: u32 = 10;
 
@@ -26,105 +26,115 @@ const SCAN: [u8; 49] = [
 
 // ---- what the lines are made of
 
-fn text(words: &[u8]) {
-    io::write_all(STDOUT_FILENO, words);
+fn text(rt: &impl Print, words: &[u8]) -> io::Result<()> {
+    rt.write_all(words)
 }
 
-fn number(label: &[u8], n: u64) {
-    text(label);
-    io::print_decimal(STDOUT_FILENO, n);
+fn number(rt: &impl Print, label: &[u8], n: u64) -> io::Result<()> {
+    text(rt, label)?;
+    print!(rt; "{n}")
 }
 
 fn word(image: &[u32], at: usize) -> u32 {
     if at < image.len() { image[at] } else { 0 }
 }
 
-fn hex(label: &[u8], n: u32) {
-    text(label);
-    io::print_hex(STDOUT_FILENO, n as u64, 8);
+fn hex(rt: &impl Print, label: &[u8], n: u32) -> io::Result<()> {
+    text(rt, label)?;
+    print!(rt; "{n:08x}")
 }
 
 // ---- the calls
 
-fn power_on(s: &mut Registers, image: &[u32]) {
+fn power_on(rt: &impl Print, s: &mut Registers, image: &[u32]) -> io::Result<()> {
     lifecycle::reset(s, PAGES);
     settings::set_default(s, ALL_RIGHTS);
     let r = lifecycle::initialise(s, image);
     number(
+        rt,
         b"reset, all rights by default, initialise: ",
         r.answer as u64,
-    );
-    text(b"\n");
+    )?;
+    text(rt, b"\n")
 }
 
-fn write(s: &mut Registers, image: &mut [u32], a: u32, b: u32, bytes: &[u8], steps: u32) {
+fn write(
+    rt: &impl Print,
+    s: &mut Registers,
+    image: &mut [u32],
+    a: u32,
+    b: u32,
+    bytes: &[u8],
+    steps: u32,
+) -> io::Result<()> {
     let r = scans::write(s, image, a, b, bytes, steps);
-    number(b"write, length ", bytes.len() as u64);
-    number(b", to ", a as u64);
-    number(b" and ", b as u64);
-    number(b": ", r.answer as u64);
-    number(b", cut ", r.cut as u64);
-    text(b"\n");
+    number(rt, b"write, length ", bytes.len() as u64)?;
+    number(rt, b", to ", a as u64)?;
+    number(rt, b" and ", b as u64)?;
+    number(rt, b": ", r.answer as u64)?;
+    number(rt, b", cut ", r.cut as u64)?;
+    text(rt, b"\n")
 }
 
-fn take(s: &mut Registers, image: &mut [u32]) {
+fn take(rt: &impl Print, s: &mut Registers, image: &mut [u32]) -> io::Result<()> {
     let r = scans::take(s, image, 2, 19, ALL_STEPS);
-    number(b"take from 2 and 19: ", r.answer as u64);
-    number(b", serial ", r.serial as u64);
-    number(b", length ", r.length as u64);
-    text(b"\n");
+    number(rt, b"take from 2 and 19: ", r.answer as u64)?;
+    number(rt, b", serial ", r.serial as u64)?;
+    number(rt, b", length ", r.length as u64)?;
+    text(rt, b"\n")
 }
 
-fn first_slot(image: &[u32]) {
+fn first_slot(rt: &impl Print, image: &[u32]) -> io::Result<()> {
     hex(
+        rt,
         b"words 0 to 3 of slot 0 of page 2: 0x",
         word(image, FIRST_SLOT),
-    );
-    hex(b" 0x", word(image, FIRST_SLOT + 1));
-    hex(b" 0x", word(image, FIRST_SLOT + 2));
-    hex(b" 0x", word(image, FIRST_SLOT + 3));
-    text(b"\n");
+    )?;
+    hex(rt, b" 0x", word(image, FIRST_SLOT + 1))?;
+    hex(rt, b" 0x", word(image, FIRST_SLOT + 2))?;
+    hex(rt, b" 0x", word(image, FIRST_SLOT + 3))?;
+    text(rt, b"\n")
 }
 
 // ---- the cases
 
 // 19, 18 and 16, which comes before 18.
-fn refusals(s: &mut Registers, image: &mut [u32]) {
-    take(s, image);
-    write(s, image, 2, 19, &SCAN[0..0], ALL_STEPS);
-    write(s, image, 2, 19, &SCAN, ALL_STEPS);
-    write(s, image, 2, 2, &SCAN[0..0], ALL_STEPS);
-    write(s, image, 2, 20, &SCAN[0..3], ALL_STEPS);
+fn refusals(rt: &impl Print, s: &mut Registers, image: &mut [u32]) -> io::Result<()> {
+    take(rt, s, image)?;
+    write(rt, s, image, 2, 19, &SCAN[0..0], ALL_STEPS)?;
+    write(rt, s, image, 2, 19, &SCAN, ALL_STEPS)?;
+    write(rt, s, image, 2, 2, &SCAN[0..0], ALL_STEPS)?;
+    write(rt, s, image, 2, 20, &SCAN[0..3], ALL_STEPS)
 }
 
 // A scan, and another one whose power goes before the seal. The next call is 4, before 16, until a reset.
-fn before_the_seal(s: &mut Registers, image: &mut [u32]) {
-    write(s, image, 19, 2, &SCAN[0..3], ALL_STEPS);
-    first_slot(image);
-    write(s, image, 2, 19, &SCAN[0..1], 14);
-    write(s, image, 2, 20, &SCAN[0..3], ALL_STEPS);
-    power_on(s, image);
-    take(s, image);
-    take(s, image);
+fn before_the_seal(rt: &impl Print, s: &mut Registers, image: &mut [u32]) -> io::Result<()> {
+    write(rt, s, image, 19, 2, &SCAN[0..3], ALL_STEPS)?;
+    first_slot(rt, image)?;
+    write(rt, s, image, 2, 19, &SCAN[0..1], 14)?;
+    write(rt, s, image, 2, 20, &SCAN[0..3], ALL_STEPS)?;
+    power_on(rt, s, image)?;
+    take(rt, s, image)?;
+    take(rt, s, image)
 }
 
 // Dead slots alone: the lower page is erased, and the power goes in the erase.
-fn in_the_erase(s: &mut Registers, image: &mut [u32]) {
-    power_on(s, image);
-    write(s, image, 2, 19, &SCAN[0..1], 200);
-    power_on(s, image);
-    take(s, image);
-    write(s, image, 2, 19, &SCAN[0..1], ALL_STEPS);
-    first_slot(image);
-    take(s, image);
+fn in_the_erase(rt: &impl Print, s: &mut Registers, image: &mut [u32]) -> io::Result<()> {
+    power_on(rt, s, image)?;
+    write(rt, s, image, 2, 19, &SCAN[0..1], 200)?;
+    power_on(rt, s, image)?;
+    take(rt, s, image)?;
+    write(rt, s, image, 2, 19, &SCAN[0..1], ALL_STEPS)?;
+    first_slot(rt, image)?;
+    take(rt, s, image)
 }
 
-fn main() {
+fn main(rt: HostRuntime) -> io::Result<()> {
     let mut s = [0u32; registers::COUNT];
     let mut image = [0xFFFF_FFFFu32; WORDS];
-    power_on(&mut s, &image);
-    refusals(&mut s, &mut image);
-    before_the_seal(&mut s, &mut image);
+    power_on(&rt, &mut s, &image)?;
+    refusals(&rt, &mut s, &mut image)?;
+    before_the_seal(&rt, &mut s, &mut image)?;
     let mut dead = [0u32; WORDS];
-    in_the_erase(&mut s, &mut dead);
+    in_the_erase(&rt, &mut s, &mut dead)
 }

@@ -18,30 +18,31 @@ mod turns;
 
 use given::data;
 use registers::Registers;
+use std::io;
 
 // The order of 3 and 5.
-fn no_kind(s: &Registers) {
-    print::text(b"uninitialised controller: ");
+fn no_kind(rt: &impl Print, s: &Registers) -> io::Result<()> {
+    print::text(rt, b"uninitialised controller: ")?;
     let uninitialised = given::all_rights();
-    cases::case(&uninitialised, data(9, 0x0000, 1));
-    print::text(b"ready controller: ");
-    cases::case(s, data(9, 0x0000, 1));
+    cases::case(rt, &uninitialised, data(9, 0x0000, 1))?;
+    print::text(rt, b"ready controller: ")?;
+    cases::case(rt, s, data(9, 0x0000, 1))
 }
 
-fn main() {
-    images::lengths();
+fn main(rt: HostRuntime) -> io::Result<()> {
+    images::lengths(&rt)?;
     let s = given::ready();
-    images::beginnings(&s);
-    spans::windows(&s);
-    spans::words(&s);
-    spans::ends(&s);
-    spans::types(&s);
-    rights::two_regions(&s);
-    rights::empty_regions(&s);
-    rights::seeds_locked(&s);
-    erases::erases(&s);
-    no_kind(&s);
-    turns::turns(&s);
-    deciders::deciders(&s);
-    denied_reads::denied_reads(&s);
+    images::beginnings(&rt, &s)?;
+    spans::windows(&rt, &s)?;
+    spans::words(&rt, &s)?;
+    spans::ends(&rt, &s)?;
+    spans::types(&rt, &s)?;
+    rights::two_regions(&rt, &s)?;
+    rights::empty_regions(&rt, &s)?;
+    rights::seeds_locked(&rt, &s)?;
+    erases::erases(&rt, &s)?;
+    no_kind(&rt, &s)?;
+    turns::turns(&rt, &s)?;
+    deciders::deciders(&rt, &s)?;
+    denied_reads::denied_reads(&rt, &s)
 }

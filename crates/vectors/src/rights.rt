@@ -4,6 +4,7 @@ use super::given::{ALL_RIGHTS, PAGE_ERASE, PROGRAM, READ, data, information};
 use super::print::{answer_line, number, text};
 use model::{Inputs, Page, Region};
 use registers::Registers;
+use std::io;
 
 const READ_RIGHT: u8 = 1;
 
@@ -23,32 +24,32 @@ pub fn region(on: bool, first: u32, count: u32, rights: u8) -> Region {
     }
 }
 
-fn on_or_off(on: bool) {
+fn on_or_off(rt: &impl Print, on: bool) -> io::Result<()> {
     if on {
-        text(b" on");
+        text(rt, b" on")
     } else {
-        text(b" off");
+        text(rt, b" off")
     }
 }
 
-pub fn set_region(s: &mut Registers, i: u32, g: Region) {
+pub fn set_region(rt: &impl Print, s: &mut Registers, i: u32, g: Region) -> io::Result<()> {
     let first = g.first;
-    number(b"set region ", i as u64);
-    on_or_off(g.on);
-    number(b", first page ", first.0 as u64);
-    number(b", count ", g.count as u64);
-    number(b", rights ", g.rights as u64);
-    answer_line(settings::set_region(s, i, g));
+    number(rt, b"set region ", i as u64)?;
+    on_or_off(rt, g.on)?;
+    number(rt, b", first page ", first.0 as u64)?;
+    number(rt, b", count ", g.count as u64)?;
+    number(rt, b", rights ", g.rights as u64)?;
+    answer_line(rt, settings::set_region(s, i, g))
 }
 
-pub fn two_regions(s: &Registers) {
+pub fn two_regions(rt: &impl Print, s: &Registers) -> io::Result<()> {
     let mut now = *s;
-    set_region(&mut now, 0, region(true, 2, 2, READ_RIGHT));
-    set_region(&mut now, 1, region(true, 0, 8, ALL_RIGHTS));
-    case(&now, data(PROGRAM, 0x0800, 1));
-    case(&now, data(PROGRAM, 0x1000, 1));
-    set_region(&mut now, 0, region(false, 2, 2, READ_RIGHT));
-    case(&now, data(PROGRAM, 0x0800, 1));
+    set_region(rt, &mut now, 0, region(true, 2, 2, READ_RIGHT))?;
+    set_region(rt, &mut now, 1, region(true, 0, 8, ALL_RIGHTS))?;
+    case(rt, &now, data(PROGRAM, 0x0800, 1))?;
+    case(rt, &now, data(PROGRAM, 0x1000, 1))?;
+    set_region(rt, &mut now, 0, region(false, 2, 2, READ_RIGHT))?;
+    case(rt, &now, data(PROGRAM, 0x0800, 1))
 }
 
 fn may_program(s: &Registers, address: u32) -> bool {
@@ -67,38 +68,44 @@ fn allowed_pages(s: &Registers) -> u64 {
 }
 
 // The region has no right, so a page that it held would be denied.
-pub fn empty_regions(s: &Registers) {
+pub fn empty_regions(rt: &impl Print, s: &Registers) -> io::Result<()> {
     let mut now = *s;
-    set_region(&mut now, 0, region(true, 2, 0, NO_RIGHT));
-    number(b"program allowed on ", allowed_pages(&now));
-    number(b" of ", DATA_PAGES as u64);
-    text(b" data pages\n");
-    set_region(&mut now, 0, region(true, DATA_PAGES, 0, NO_RIGHT));
-    set_region(&mut now, 0, region(true, DATA_PAGES, 1, NO_RIGHT));
+    set_region(rt, &mut now, 0, region(true, 2, 0, NO_RIGHT))?;
+    number(rt, b"program allowed on ", allowed_pages(&now))?;
+    number(rt, b" of ", DATA_PAGES as u64)?;
+    text(rt, b" data pages\n")?;
+    set_region(rt, &mut now, 0, region(true, DATA_PAGES, 0, NO_RIGHT))?;
+    set_region(rt, &mut now, 0, region(true, DATA_PAGES, 1, NO_RIGHT))
 }
 
 // ---- seed pages
 
-fn page_kind(s: &Registers, name: &[u8], kind: u8, address: u32) {
-    text(name);
-    case(s, information(kind, 0, address, 1));
+fn page_kind(
+    rt: &impl Print,
+    s: &Registers,
+    name: &[u8],
+    kind: u8,
+    address: u32,
+) -> io::Result<()> {
+    text(rt, name)?;
+    case(rt, s, information(kind, 0, address, 1))
 }
 
 // Read, program and page erase.
-fn page_kinds(s: &Registers, name: &[u8], address: u32) {
-    page_kind(s, name, READ, address);
-    page_kind(s, name, PROGRAM, address);
-    page_kind(s, name, PAGE_ERASE, address);
+fn page_kinds(rt: &impl Print, s: &Registers, name: &[u8], address: u32) -> io::Result<()> {
+    page_kind(rt, s, name, READ, address)?;
+    page_kind(rt, s, name, PROGRAM, address)?;
+    page_kind(rt, s, name, PAGE_ERASE, address)
 }
 
-pub fn seeds_locked(s: &Registers) {
+pub fn seeds_locked(rt: &impl Print, s: &Registers) -> io::Result<()> {
     let mut now = *s;
     let inputs = Inputs {
         provision: true,
         locked: true,
     };
-    text(b"provision on, seeds locked");
-    answer_line(inputs::set_inputs(&mut now, inputs));
-    page_kinds(&now, b"owner page: ", 0x0800);
-    page_kinds(&now, b"creator page: ", 0x0400);
+    text(rt, b"provision on, seeds locked")?;
+    answer_line(rt, inputs::set_inputs(&mut now, inputs))?;
+    page_kinds(rt, &now, b"owner page: ", 0x0800)?;
+    page_kinds(rt, &now, b"creator page: ", 0x0400)
 }
