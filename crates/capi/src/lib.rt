@@ -2,6 +2,7 @@
 // them and has the calls that a bench uses. A name carries the layout's number, so that a library which does not fit the header
 // does not link.
 #![tactic(auto)]
+
 ghost use Rattle.std.specs.Prelude.{◌≡◌};
 ghost use Rattle.model.specs.State.{flash};
 ghost use Rattle.registers.specs.Registers.{is_on};
