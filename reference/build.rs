@@ -1,4 +1,4 @@
-//! Links the proved model's static library, which `rt staticlib capi` writes.
+//! Links the proved model's static library, which `./lurgabel library` builds.
 
 use std::path::PathBuf;
 
@@ -11,7 +11,7 @@ fn main() {
     println!("cargo:rerun-if-env-changed={FOLDER_VARIABLE}");
     println!("cargo:rerun-if-changed={}", archive.display());
     if !archive.is_file() {
-        eprintln!("{} is missing: run `rt staticlib capi` first", shown());
+        eprintln!("{} is missing: run `./lurgabel library` first", shown());
         std::process::exit(1);
     }
     println!("cargo:rustc-link-search=native={}", folder().display());

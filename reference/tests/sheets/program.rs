@@ -37,8 +37,12 @@ fn started() -> Child {
         .stdout(Stdio::piped())
         .stderr(Stdio::piped())
         .spawn();
-    command
-        .unwrap_or_else(|error| panic!("{}: {error}: run `rt check sheet` first", path.display()))
+    command.unwrap_or_else(|error| {
+        panic!(
+            "{}: {error}: run `./lurgabel sheet FILE` first",
+            path.display()
+        )
+    })
 }
 
 /// A program that has seen enough may close its input before the sheet's end.
