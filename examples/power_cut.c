@@ -12,7 +12,7 @@ static uint32_t image[IMAGE_WORDS]; /* keeps its words without power */
 static lurgabel_controller c;       /* does not */
 
 /* The mark is the last word, so that it stands only behind a whole record. */
-static uint32_t record[WORDS] = {1001, 1002, 1003, 0x600DF00D};
+static const uint32_t record[WORDS] = {1001, 1002, 1003, 0x600DF00D};
 
 static void must(const char *call, lurgabel_answer answer) {
     if (answer != LURGABEL_ACCEPTED) {
@@ -28,6 +28,16 @@ static void power_on(void) {
     must("initialise", lurgabel_initialise(&c, image, IMAGE_WORDS, NULL));
 }
 
+static void program_until(uint32_t cut) {
+    lurgabel_operation program = {.kind = LURGABEL_PROGRAM, .address = 0, .count = WORDS};
+    uint32_t i;
+    must("start", lurgabel_start(&c, program));
+    for (i = 0; i < cut; i++) {
+        must("push", lurgabel_push(&c, record[i]));
+        must("step", lurgabel_step(&c, image, IMAGE_WORDS, NULL, NULL));
+    }
+}
+
 static const char *what_is_found(void) {
     lurgabel_operation read = {.kind = LURGABEL_READ, .address = 0, .count = WORDS};
     uint32_t found[WORDS];
@@ -39,14 +49,13 @@ static const char *what_is_found(void) {
 }
 
 int main(void) {
-    lurgabel_operation program = {.kind = LURGABEL_PROGRAM, .address = 0, .count = WORDS};
-    uint32_t steps, cut = 1;
-    for (steps = 0; cut; steps++) {
+    uint32_t cut;
+    for (cut = 0; cut <= WORDS; cut++) {
         lurgabel_blank_image(image, IMAGE_WORDS);
         power_on();
-        must("program", lurgabel_run_for(&c, image, IMAGE_WORDS, program, record, WORDS, NULL, steps, &cut));
+        program_until(cut); /* the power goes: no more steps */
         power_on();
-        printf("power cut after %u of %u words: %s\n", (unsigned)steps, (unsigned)WORDS, what_is_found());
+        printf("power cut after %u of %u words: %s\n", (unsigned)cut, (unsigned)WORDS, what_is_found());
     }
     return EXIT_SUCCESS;
 }

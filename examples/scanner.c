@@ -3,9 +3,8 @@
  *
  *     ./lurgabel run examples/scanner.c
  *
- * It keeps its scans in a queue in the flash, loses its battery in the middle of a write, finds the scans again and
- * sends them in order. Then it makes the mistake that the bench is there for: it erases a page that it takes for its
- * own, and asks who refused.
+ * It programs its scans into a page of the flash, loses its battery, finds the scans again and sends them. Then it
+ * makes the mistake that the bench is there for: it erases a page that it takes for its own, and asks who refused.
  */
 #include <inttypes.h>
 #include <stdbool.h>
@@ -18,11 +17,18 @@
 #define DATA_PAGES 16u  /* in each bank */
 #define IMAGE_WORDS LURGABEL_IMAGE_WORDS(DATA_PAGES)
 
-/* Pages 4 and 5 are ours and hold the queue. The meter list on page 6 belongs to another program. */
+/* Pages 4 and 5 are ours. The meter list on page 6 belongs to another program. */
 #define SCAN_PAGE 4u
-#define OTHER_SCAN_PAGE 5u
 #define OWN_PAGES 2u
 #define METER_PAGE 6u
+
+/* A program may not leave its window of 64 bytes, so each scan has a window to itself. */
+#define WINDOW_WORDS 16u
+#define WINDOWS (LURGABEL_PAGE_WORDS / WINDOW_WORDS)
+
+/* A scan in the flash: its mark, the meter, the rack, and a check word over these three. */
+enum { MARK, METER, RACK, CHECK, SCAN_WORDS };
+#define SCAN_MARK 0x5343414Eu
 
 static uint32_t flash[IMAGE_WORDS];     /* keeps its words without power */
 static lurgabel_controller controller;  /* does not */
@@ -41,6 +47,27 @@ static void require_accepted(const char *call, lurgabel_answer answer) {
         printf("scanner stopped: %s: %s (%d)\n", call, lurgabel_answer_text(answer), (int)answer);
         exit(EXIT_FAILURE);
     }
+}
+
+static uint32_t address_of(uint32_t page, uint32_t word) {
+    return LURGABEL_ADDRESS(DATA_PAGES, 0, page, word * (uint32_t)sizeof(uint32_t));
+}
+
+static lurgabel_operation on_window(uint8_t kind, uint32_t window) {
+    return (lurgabel_operation){
+        .kind = kind,
+        .partition = LURGABEL_DATA,
+        .address = address_of(SCAN_PAGE, window * WINDOW_WORDS),
+        .count = SCAN_WORDS,
+    };
+}
+
+static lurgabel_operation erase_of(uint32_t page) {
+    return (lurgabel_operation){
+        .kind = LURGABEL_PAGE_ERASE,
+        .partition = LURGABEL_DATA,
+        .address = address_of(page, 0),
+    };
 }
 
 /* ---- power ---------------------------------------------------------------------------------------------------- */
@@ -64,37 +91,89 @@ static void battery_out(void) {
 
 /* ---- scans ---------------------------------------------------------------------------------------------------- */
 
-/* Once it returns, the scan is in the flash and stays there until it is taken. */
-static void keep(const char *scan) {
-    require_accepted("write scan", lurgabel_write_scan(&controller, flash, IMAGE_WORDS, SCAN_PAGE, OTHER_SCAN_PAGE,
-                                                       (const uint8_t *)scan, strlen(scan)));
-    printf("  kept %s\n", scan);
+static void make_scan(uint32_t scan[SCAN_WORDS], uint32_t meter, uint32_t rack) {
+    scan[MARK] = SCAN_MARK;
+    scan[METER] = meter;
+    scan[RACK] = rack;
+    scan[CHECK] = SCAN_MARK ^ meter ^ rack;
 }
 
-/* The bench cuts the power: the form of the call that has _for makes so many of its steps and no more. */
-static void keep_for(const char *scan, uint32_t steps) {
-    uint32_t cut;
-    require_accepted("write scan", lurgabel_write_scan_for(&controller, flash, IMAGE_WORDS, SCAN_PAGE, OTHER_SCAN_PAGE,
-                                                           (const uint8_t *)scan, strlen(scan), steps, &cut));
-    require(cut, "the write has ended before the cut");
-    printf("  cut after %" PRIu32 " steps: %s\n", steps, scan);
+static bool is_whole(const uint32_t scan[SCAN_WORDS]) {
+    return scan[MARK] == SCAN_MARK && scan[CHECK] == (scan[MARK] ^ scan[METER] ^ scan[RACK]);
 }
 
-/* Takes one scan after the other, oldest first, and says how many there were. */
-static uint32_t send_all(void) {
-    lurgabel_scan scan;
+static void print_scan(uint32_t window, const uint32_t scan[SCAN_WORDS]) {
+    printf("  window %" PRIu32 ": meter %" PRIu32 ", rack %" PRIu32, window, scan[METER], scan[RACK]);
+}
+
+/* The first window whose mark is still erased. A view looks straight into the flash. */
+static uint32_t first_free_window(void) {
     lurgabel_answer answer;
-    uint32_t sent = 0;
-    while ((answer = lurgabel_take_scan(&controller, flash, IMAGE_WORDS, SCAN_PAGE, OTHER_SCAN_PAGE, &scan)) ==
-           LURGABEL_ACCEPTED) {
-        printf("  sent %" PRIu32 ": %.*s\n", scan.serial, (int)scan.length, (const char *)scan.bytes);
-        sent++;
+    const uint32_t *page = lurgabel_view(&controller, flash, IMAGE_WORDS, SCAN_PAGE, &answer);
+    uint32_t window = 0;
+    require_accepted("view", answer);
+    while (window < WINDOWS && page[window * WINDOW_WORDS + MARK] != LURGABEL_ERASED) {
+        window++;
     }
-    require(answer == LURGABEL_NO_SCAN, lurgabel_answer_text(answer));
-    return sent;
+    return window;
 }
 
-/* ---- a foreign page ------------------------------------------------------------------------------------------- */
+static uint32_t window_for_new_scan(void) {
+    uint32_t window = first_free_window();
+    require(window < WINDOWS, "the page is full");
+    return window;
+}
+
+/* Appends a scan by a whole operation: one call, and the scan is in the flash. */
+static void append(uint32_t meter, uint32_t rack) {
+    uint32_t window = window_for_new_scan();
+    uint32_t scan[SCAN_WORDS], bits;
+    make_scan(scan, meter, rack);
+    require_accepted("program", lurgabel_run(&controller, flash, IMAGE_WORDS, on_window(LURGABEL_PROGRAM, window), scan,
+                                             SCAN_WORDS, &bits));
+    print_scan(window, scan);
+    printf(": %" PRIu32 " bits fell\n", bits);
+}
+
+/* Appends a scan word by word. Between two steps the bench may do what it likes: read as host, or cut the power. */
+static void append_by_steps(uint32_t meter, uint32_t rack) {
+    uint32_t window = window_for_new_scan();
+    uint32_t scan[SCAN_WORDS], bits, fallen = 0, word = 0;
+    lurgabel_movement movement;
+    make_scan(scan, meter, rack);
+    require_accepted("start", lurgabel_start(&controller, on_window(LURGABEL_PROGRAM, window)));
+    do {
+        require_accepted("push", lurgabel_push(&controller, scan[word++]));
+        require_accepted("step", lurgabel_step(&controller, flash, IMAGE_WORDS, &movement, &bits));
+        fallen += bits;
+    } while (movement != LURGABEL_FINISHED);
+    print_scan(window, scan);
+    printf(": %" PRIu32 " bits fell, in %" PRIu32 " steps\n", fallen, word);
+}
+
+/* Reads every scan of the page back, each into a buffer of its own size, and says how many there are. */
+static uint32_t find_scans(void) {
+    uint32_t free_window = first_free_window();
+    uint32_t window;
+    for (window = 0; window < free_window; window++) {
+        uint32_t scan[SCAN_WORDS];
+        require_accepted("read", lurgabel_run(&controller, flash, IMAGE_WORDS, on_window(LURGABEL_READ, window), scan,
+                                              SCAN_WORDS, NULL));
+        require(is_whole(scan), "a scan is damaged");
+        print_scan(window, scan);
+        printf("\n");
+    }
+    return free_window;
+}
+
+/* ---- pages ---------------------------------------------------------------------------------------------------- */
+
+static void erase_own_page(void) {
+    uint32_t bits;
+    require_accepted("erase", lurgabel_run(&controller, flash, IMAGE_WORDS, erase_of(SCAN_PAGE), NULL, 0, &bits));
+    require(first_free_window() == 0, "the page is not blank");
+    printf("  %" PRIu32 " bits rose, window 0 is free again\n", bits);
+}
 
 /* What the other program keeps: the bench puts it into the flash by hand. */
 static void fill_meter_page(void) {
@@ -116,11 +195,7 @@ static uint32_t meters_listed(void) {
 
 /* The form of a call that ends in _by also says who decided. */
 static void erase_foreign_page(void) {
-    lurgabel_operation erase = {
-        .kind = LURGABEL_PAGE_ERASE,
-        .partition = LURGABEL_DATA,
-        .address = LURGABEL_ADDRESS(DATA_PAGES, 0u, METER_PAGE, 0u),
-    };
+    lurgabel_operation erase = erase_of(METER_PAGE);
     lurgabel_decider by;
     lurgabel_answer answer = lurgabel_run_by(&controller, flash, IMAGE_WORDS, erase, NULL, 0, NULL, &by);
     require(answer == LURGABEL_DENIED, "the erase of a foreign page was not refused");
@@ -139,21 +214,18 @@ int main(void) {
 
     printf("battery in: pages 4 and 5 are ours, the others we may only read\n");
     battery_in();
-    keep("meter 40117, rack 3");
-    keep("meter 40118, rack 3");
-    keep("meter 40131, rack 5");
+    append(40117, 3);
+    append(40118, 3);
+    append(40131, 5);
+    append_by_steps(40202, 9);
 
-    printf("the battery falls out in the middle of a write\n");
-    keep_for("meter 40202, rack 9", 7);
+    printf("battery out, battery in: the controller forgets, the flash does not\n");
     battery_out();
-
-    printf("battery in: the controller forgets, the flash does not\n");
     battery_in();
-    require(send_all() == 3, "scans are lost");
+    require(find_scans() == 4, "scans are lost");
 
-    printf("the scan that was cut is made again\n");
-    keep("meter 40202, rack 9");
-    require(send_all() == 1, "the scan is lost");
+    printf("the scans are sent: erase page 4\n");
+    erase_own_page();
 
     printf("a slip: erase page 6, the meter list\n");
     erase_foreign_page();

@@ -12,7 +12,7 @@ use Rattle.model.specs.Places.{total_words}
 use Rattle.model.specs.State.{Flash}
 use Rattle.model.specs.Refusals.{accepts}
 use Rattle.model.specs.Checks.{operation_answer}
-use Rattle.model.specs.Steps.{starts, start}
+use Rattle.model.specs.Steps.{starts}
 use Rattle.model.specs.Whole.{whole_answer, short_buffer}
 use Rattle.model.specs.declared.Operation.{Operation}
 use Rattle.model.specs.declared.Controller.{Controller}

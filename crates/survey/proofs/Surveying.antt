@@ -1,9 +1,9 @@
 -- Laws of a survey: what it tells of the places is what the definitions of a write and a take ask. Assumes nothing.
 use mathlib.Core.Path.{◌≡◌, refl, ap, ◌∙◌}
-use mathlib.Core.Logic.{◌⊎◌, ⊎_elim}
+use mathlib.Core.Logic.{⊎_elim}
 use mathlib.Core.Bool.{Bool, true, false, cond, not, ◌&&◌}
 use mathlib.Core.List.{List, [], ◌∷◌, ◌++◌}
-use Prim.Native.Nat.{ℕ, zero, suc, ◌+◌, ◌*◌, ◌-◌, ◌<◌, ◌≤◌, max}
+use Prim.Native.Nat.{ℕ, zero, suc, ◌+◌, ◌*◌, ◌<◌, ◌≤◌, max}
 use native.Mathlib.Omega.{arith}
 use lib.Dec.{ltb, leb}
 use lib.ListN.{length, get_or, drop, drop_of_length-le}
@@ -11,7 +11,7 @@ use lib.Seq.{drop-cons}
 use Rattle.model.proofs.Bool.{which}
 use borrow.Author.Tests.{lt-ltb, le-ltb, ltb-true, ltb-false, leb-true, leb-false}
 use Rattle.scan_queue.specs.Payload.{Scan}
-use Rattle.scan_queue.specs.Slots.{Slot, Unused, Dead, Waiting, Taken, Odd, slot_at, waits, serial_of, is_unused, slots_from, places, Entry, cons, entries, insert, sorted, queue, highest}
+use Rattle.scan_queue.specs.Slots.{Slot, Unused, Dead, Waiting, Taken, Odd, slot_at, waits, serial_of, is_unused, slots_from, Entry, cons, entries, insert, sorted, queue, highest}
 use Rattle.scan_queue.specs.Decisions.{Room, None, At, or_at, first_unused, is_nothing, none_waits}
 use Rattle.slots.specs.Code.{to_slot}
 use Rattle.slots.specs.declared.Class as Class

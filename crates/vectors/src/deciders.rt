@@ -3,10 +3,10 @@ use super::cases::case;
 use super::given::{
     ALL_RIGHTS, BANK_ERASE, ONES, PAGE_ERASE, PROGRAM, READ, WORDS, data, information,
 };
+use super::page_rights::{NO_RIGHT, region, set_region};
 use super::print::{answer_line, number, ruled, text};
-use super::rights::{NO_RIGHT, region, set_region};
-use super::spans::host_read;
 use super::turns::host_alone;
+use super::word_spans::host_read;
 use model::{Inputs, Page, PageSetting};
 use registers::Registers;
 use std::io;

@@ -2,9 +2,9 @@
 use super::deciders::{PROGRAM_RIGHT, provision_off, set_page};
 use super::drive::popped;
 use super::given::{ONES, READ, WORDS, data, information};
+use super::page_rights::{NO_RIGHT, region, set_region};
 use super::print;
 use super::print::{hex, number, ruled, text};
-use super::rights::{NO_RIGHT, region, set_region};
 use model::Operation;
 use registers::Registers;
 use std::io;

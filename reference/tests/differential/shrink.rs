@@ -216,7 +216,7 @@ fn found(alter: Alter) -> (Failure, String) {
 #[test]
 fn a_wrong_answer_is_found_and_shrunk() {
     let (small, text) = found(refuses_some_pushes);
-    assert!(small.turns.len() <= 5, "{text}");
+    assert!(small.turns.len() <= 4, "{text}");
     assert!(
         text.contains("Start {") || text.contains("write progress."),
         "{text}"

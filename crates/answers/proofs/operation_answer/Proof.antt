@@ -1,7 +1,6 @@
 -- `answers::operation_answer` meets its contract. Assumes nothing.
 use mathlib.Core.Path.{◌≡◌, refl, sym, ◌∙◌}
-use mathlib.Core.Bool.{true, false, not}
-use borrow.Author.Tests.{not-false}
+use mathlib.Core.Bool.{true, false}
 use lib.ListN.{get_or}
 use Rattle.model.specs.Checks.{malformed, out_of_range, operation_answer}
 use Rattle.model.specs.declared.Answer.TheVariants.{Malformed}

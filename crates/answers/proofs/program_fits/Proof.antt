@@ -1,7 +1,6 @@
 -- `answers::program_fits` meets its contract. Assumes nothing.
 use mathlib.Core.Path.{◌≡◌, refl, sym, ◌∙◌}
-use mathlib.Core.Bool.{true, false, not, ◌&&◌}
-use borrow.Author.Tests.{not-true, not-false}
+use mathlib.Core.Bool.{true, false, ◌&&◌}
 use lib.ListN.{get_or}
 use Rattle.model.specs.Kinds.{is_program}
 use Rattle.model.specs.Checks.{malformed, out_of_range, operation_answer}

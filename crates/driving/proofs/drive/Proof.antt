@@ -1,15 +1,8 @@
 -- `driving::drive` meets its contract. Assumes nothing.
-use mathlib.Core.Path.{◌≡◌, sym, ◌∙◌}
-use mathlib.Core.Bool.{true, false}
-use Prim.Native.Nat.{◌≤◌}
+use mathlib.Core.Path.{sym, ◌∙◌}
 use native.Mathlib.Omega.{arith}
 use borrow.Author.Rules.{rules}
-use Rattle.model.specs.Places.{total_words}
 use Rattle.model.specs.State.{flash}
-use Rattle.model.specs.Refusals.{accepts}
-use Rattle.model.specs.Whole.{whole_answer, short_buffer}
-use Rattle.registers.specs.Registers.{setup_of, decode}
-use Rattle.driving.specs.Drives.{starts_by}
 use Rattle.driving.proofs.Driving.{drive_refused, drive_short, drive_stops, drive_goes, few_total, has_room}
 use Rattle.driving.proofs.drive.Statement.{statement}
 use Rattle.driving.proofs.drive.Tie as tie

@@ -1,6 +1,5 @@
 -- `host::host_read` meets its contract. Assumes nothing.
 use mathlib.Core.Path.{sym, ◌∙◌}
-use Rattle.model.specs.Refusals.{accepts}
 use Rattle.host.proofs.Hosted.{read_early}
 use Rattle.host.proofs.host_read.Statement.{statement}
 use Rattle.host.proofs.host_read.Tie as tie

@@ -1,10 +1,6 @@
 -- `lifecycle::initialise` meets its contract. Assumes nothing.
-use mathlib.Core.Path.{◌≡◌, sym, ◌∙◌}
+use mathlib.Core.Path.{sym, ◌∙◌}
 use mathlib.Core.Bool.{true, false}
-use Rattle.model.specs.State.{flash}
-use Rattle.model.specs.Refusals.{accepts}
-use Rattle.model.specs.Lifecycle.{initialise_answer}
-use Rattle.registers.specs.Registers.{decode}
 use Rattle.lifecycle.proofs.Cycled.{initialise_refused, initialise_fits, initialise_accepted}
 use Rattle.lifecycle.proofs.initialise.Statement.{statement}
 use Rattle.lifecycle.proofs.initialise.Tie as tie

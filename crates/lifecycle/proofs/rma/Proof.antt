@@ -1,11 +1,6 @@
 -- `lifecycle::rma` meets its contract. Assumes nothing.
-use mathlib.Core.Path.{◌≡◌, sym, ◌∙◌}
-use mathlib.Core.Bool.{true}
+use mathlib.Core.Path.{sym, ◌∙◌}
 use borrow.Author.Rules.{rules}
-use Rattle.model.specs.State.{flash}
-use Rattle.model.specs.Refusals.{accepts}
-use Rattle.model.specs.Lifecycle.{rma_answer}
-use Rattle.registers.specs.Registers.{decode}
 use Rattle.lifecycle.proofs.Cycled.{rma_refused, rma_fits, rma_accepted}
 use Rattle.lifecycle.proofs.rma.Statement.{statement}
 use Rattle.lifecycle.proofs.rma.Tie as tie

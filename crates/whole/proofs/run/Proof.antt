@@ -1,11 +1,8 @@
 -- `whole::run` meets its contract. Assumes nothing.
-use mathlib.Core.Path.{◌≡◌, sym, ◌∙◌}
-use mathlib.Core.Bool.{true}
+use mathlib.Core.Path.{sym, ◌∙◌}
 use borrow.Author.Rules.{rules}
 use Rattle.model.specs.State.{flash}
-use Rattle.model.specs.Refusals.{accepts}
-use Rattle.model.specs.Whole.{whole_answer}
-use Rattle.registers.specs.Registers.{decode, stands_for}
+use Rattle.registers.specs.Registers.{stands_for}
 use Rattle.whole.proofs.Completed.{run_refused, run_short, admitted, run_answered}
 use Rattle.whole.proofs.run.Statement.{statement}
 use Rattle.whole.proofs.run.Tie as tie

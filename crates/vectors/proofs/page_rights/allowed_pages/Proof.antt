@@ -1,7 +1,7 @@
--- `vectors::rights::allowed_pages` meets its contract. Assumes nothing.
+-- `vectors::page_rights::allowed_pages` meets its contract. Assumes nothing.
 use Rattle.std.proofs.Common.{◌-◌, ◌≤◌, rules}
-use Rattle.vectors.proofs.rights.allowed_pages.Statement.{statement}
-use Rattle.vectors.proofs.rights.allowed_pages.Tie as tie
+use Rattle.vectors.proofs.page_rights.allowed_pages.Statement.{statement}
+use Rattle.vectors.proofs.page_rights.allowed_pages.Tie as tie
 
 abbrev invariant_loop : tie.invariant-loop-p
 invariant_loop s n₀ p₀ n p = p ≤ 32
