@@ -1,5 +1,6 @@
 -- `driving::drive` meets its contract. Assumes nothing.
 use mathlib.Core.Path.{sym, ◌∙◌}
+use Prim.Native.Nat.{◌≤◌}
 use native.Mathlib.Omega.{arith}
 use borrow.Author.Rules.{rules}
 use Rattle.model.specs.State.{flash}
@@ -14,29 +15,60 @@ returns c =
     (drive_refused a.steps a.s.now (flash a.image.now) a.o a.buffer.now _ c.whole_answer-first.ensures
     (sym c.accepts.ensures ∙ c.if-not-accepts.true))
 
+-- Past the first test, checks 1 to 4 passed (`free`);
 returns_2 : tie.Need-returns-then-short_buffer
 returns_2 c =
     let a = c.args in
+    let free = rw c.whole_answer-first.ensures at (sym c.accepts.ensures ∙ c.if-not-accepts.false) in
     rw c.unmoved-then-short_buffer.ensures
-    (drive_short a.steps a.s.now (flash a.image.now) a.o a.buffer.now (rw c.whole_answer-first.ensures at (sym c.accepts.ensures ∙ c.if-not-accepts.false)) (sym c.short_buffer.ensures ∙ c.if-short_buffer.true))
+    (drive_short a.steps a.s.now (flash a.image.now) a.o a.buffer.now free (sym c.short_buffer.ensures ∙ c.if-short_buffer.true))
 
+-- past the second, 6 (`room`);
 returns_3 : tie.Need-returns-then-not-starts
 returns_3 c =
     let a = c.args in
-    drive_stops a.steps a.s.now (flash a.image.now) a.o a.buffer.now (rw c.whole_answer-first.ensures at (sym c.accepts.ensures ∙ c.if-not-accepts.false)) (sym c.short_buffer.ensures ∙ c.if-short_buffer.false) _ c.start-told.ensures
+    let free = rw c.whole_answer-first.ensures at (sym c.accepts.ensures ∙ c.if-not-accepts.false) in
+    let room = sym c.short_buffer.ensures ∙ c.if-short_buffer.false in
+    drive_stops a.steps a.s.now (flash a.image.now) a.o a.buffer.now free room _ c.start-told.ensures
     (sym c.starts.ensures ∙ c.if-not-starts.true)
+
+-- past the third, it has started (`go`).
+few : (c : tie.After-total_words-total) → c.total_words-total.result ≤ 131072
+few c =
+    let a = c.args in
+    let free = rw c.whole_answer-first.ensures at (sym c.accepts.ensures ∙ c.if-not-accepts.false) in
+    let room = sym c.short_buffer.ensures ∙ c.if-short_buffer.false in
+    let go = sym c.starts.ensures ∙ c.if-not-starts.false in
+    let all = rw c.pages-d.ensures at c.total_words-total.ensures in
+    few_total a.steps a.s.now (flash a.image.now) a.o a.buffer.now free room _ c.start-told.ensures go _ all
 
 turns_requires : tie.Need-turns-bits-requires
 turns_requires c κs =
     let a = c.args in
-    (has_room a.steps a.s.now (flash a.image.now) a.o a.buffer.now (rw c.whole_answer-first.ensures at (sym c.accepts.ensures ∙ c.if-not-accepts.false)) (sym c.short_buffer.ensures ∙ c.if-short_buffer.false) _ c.start-told.ensures (sym c.starts.ensures ∙ c.if-not-starts.false) _ (rw c.pages-d.ensures at c.total_words-total.ensures) _ (omega (arith, c.fewer-n.ensures)), omega (arith, c.fewer-n.ensures, (let a = c.args in few_total a.steps a.s.now (flash a.image.now) a.o a.buffer.now (rw c.whole_answer-first.ensures at (sym c.accepts.ensures ∙ c.if-not-accepts.false)) (sym c.short_buffer.ensures ∙ c.if-short_buffer.false) _ c.start-told.ensures (sym c.starts.ensures ∙ c.if-not-starts.false) _ (rw c.pages-d.ensures at c.total_words-total.ensures))))
+    let free = rw c.whole_answer-first.ensures at (sym c.accepts.ensures ∙ c.if-not-accepts.false) in
+    let room = sym c.short_buffer.ensures ∙ c.if-short_buffer.false in
+    let go = sym c.starts.ensures ∙ c.if-not-starts.false in
+    let all = rw c.pages-d.ensures at c.total_words-total.ensures in
+    let fits = few_total a.steps a.s.now (flash a.image.now) a.o a.buffer.now free room _ c.start-told.ensures go _ all in (
+      has_room a.steps a.s.now (flash a.image.now) a.o a.buffer.now free room _ c.start-told.ensures go _ all _ (omega (arith, c.fewer-n.ensures)),
+      omega (arith, c.fewer-n.ensures, fits),
+    )
 
 returns_4 : tie.Need-returns
 returns_4 c =
     let a = c.args in
+    let free = rw c.whole_answer-first.ensures at (sym c.accepts.ensures ∙ c.if-not-accepts.false) in
+    let room = sym c.short_buffer.ensures ∙ c.if-short_buffer.false in
+    let go = sym c.starts.ensures ∙ c.if-not-starts.false in
+    let all = rw c.pages-d.ensures at c.total_words-total.ensures in
     rw c.flag_of.ensures.0
-    (drive_goes a.steps a.s.now (flash a.image.now) a.o a.buffer.now (rw c.whole_answer-first.ensures at (sym c.accepts.ensures ∙ c.if-not-accepts.false)) (sym c.short_buffer.ensures ∙ c.if-short_buffer.false) _ c.start-told.ensures (sym c.starts.ensures ∙ c.if-not-starts.false) _ (rw c.pages-d.ensures at c.total_words-total.ensures) _ c.fewer-n.ensures
-    (record { registers = c.turns-bits.new.s; flash = flash c.turns-bits.new.image; buffer = c.turns-bits.new.buffer; bits = c.turns-bits.result }) c.turns-bits.ensures)
+    (drive_goes a.steps a.s.now (flash a.image.now) a.o a.buffer.now free room _ c.start-told.ensures go _ all _ c.fewer-n.ensures
+    (record {
+      registers = c.turns-bits.new.s;
+      flash = flash c.turns-bits.new.image;
+      buffer = c.turns-bits.new.buffer;
+      bits = c.turns-bits.result;
+    }) c.turns-bits.ensures)
 
 pub drive_spec : {M : Type 1} → statement M
 drive_spec =
@@ -59,7 +91,7 @@ drive_spec =
     (λ c. search rules)
     returns_3
     (λ c κs. tt)
-    (λ c. omega (arith, (let a = c.args in few_total a.steps a.s.now (flash a.image.now) a.o a.buffer.now (rw c.whole_answer-first.ensures at (sym c.accepts.ensures ∙ c.if-not-accepts.false)) (sym c.short_buffer.ensures ∙ c.if-short_buffer.false) _ c.start-told.ensures (sym c.starts.ensures ∙ c.if-not-starts.false) _ (rw c.pages-d.ensures at c.total_words-total.ensures))))
+    (λ c. omega (arith, few c))
     (λ c κs. tt)
     turns_requires
     (λ c. omega (arith, c.fewer-n.ensures))
