@@ -66,13 +66,13 @@ module _ (m : List ℕ) (a b : ℕ) (bytes : List ℕ) where
         none_high : (t : Survey) → t ≡ surveyed m (slots_from 16 b) nothing → none_waits m (slots_from 16 b) ≡ not t.waits
         none_high t e = sym (tells_waits m (slots_from 16 b)) ∙ rw (← e) refl
 
-        module _ (t : Survey) (Seen-low : t ≡ surveyed m (slots_from 16 a) nothing) where
+        module _ (t : Survey) (seen_low : t ≡ surveyed m (slots_from 16 a) nothing) where
           pub to_lower : t.waits ≡ false → write m a b bytes ≡ Erases a (scan_with (s.highest + 1) bytes)
-          to_lower e = goes ∙ rw (no_room, none_low t Seen-low, e) refl
+          to_lower e = goes ∙ rw (no_room, none_low t seen_low, e) refl
 
           module _ (busy : t.waits ≡ true) (u : Survey) (seen_high : u ≡ surveyed m (slots_from 16 b) nothing) where
             pub to_higher : u.waits ≡ false → write m a b bytes ≡ Erases b (scan_with (s.highest + 1) bytes)
-            to_higher e = goes ∙ rw (no_room, none_low t Seen-low, busy, none_high u seen_high, e) refl
+            to_higher e = goes ∙ rw (no_room, none_low t seen_low, busy, none_high u seen_high, e) refl
 
             pub no_page : u.waits ≡ true → write m a b bytes ≡ Refused 17
-            no_page e = goes ∙ rw (no_room, none_low t Seen-low, busy, none_high u seen_high, e) refl
+            no_page e = goes ∙ rw (no_room, none_low t seen_low, busy, none_high u seen_high, e) refl

@@ -40,9 +40,7 @@ pub const PAIRS: usize = 2 * (3 * 11 + 1) + 3 * 9;
 fn row(call: &Call) -> Option<usize> {
     match call {
         Call::Start { operation } => Some(operation.kind as usize),
-        Call::Run { operation, .. } | Call::RunFor { operation, .. } => {
-            Some(4 + operation.kind as usize)
-        }
+        Call::Run { operation, .. } => Some(4 + operation.kind as usize),
         Call::HostRead { .. } => Some(8),
         Call::View { .. } => Some(9),
         Call::Round { .. } => Some(10),
@@ -84,8 +82,11 @@ pub struct Named([[u64; DECIDERS]; ROWS.len()]);
 impl Named {
     pub fn count(&mut self, call: &Call, outcome: &Outcome) {
         if let Some((DENIED, decider)) = told(call, outcome) {
-            let row = row(call).expect("it can be denied");
-            self.0[row][decider as usize] += 1;
+            // A call for a number of steps is denied as the whole operation is, and does not stand for it here.
+            if !matches!(call, Call::RunFor { .. }) {
+                let row = row(call).expect("it can be denied");
+                self.0[row][decider as usize] += 1;
+            }
         }
     }
 

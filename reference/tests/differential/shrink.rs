@@ -63,6 +63,7 @@ fn shrunk(failure: &Failure, alter: Alter) -> Failure {
     clear_start(&mut small, until, alter);
     // Such as had to undo what stood in the start.
     drop_turns(&mut small, until, alter);
+    set_up(&mut small, alter);
     if let Some((place, why)) = replayed(&small.start, &small.turns, alter) {
         small.turns.truncate(place + 1);
         small.why = why;
@@ -96,6 +97,37 @@ fn clear_start(small: &mut Failure, until: Instant, alter: Alter) {
             small.start = start;
         }
     }
+}
+
+/// Where the first calls only reset, initialise and set, what they leave is the start.
+fn set_up(small: &mut Failure, alter: Alter) {
+    let mut bench = Bench::new(&small.start, alter);
+    let mut calls = 0;
+    while calls + 1 < small.turns.len() && sets_up(&small.turns[calls].call) {
+        if bench.take(&small.turns[calls]).is_err() {
+            return;
+        }
+        calls += 1;
+    }
+    let mut start = small.start.clone();
+    start.controller = *bench.flat();
+    if replayed(&start, &small.turns[calls..], alter).is_some() {
+        small.start = start;
+        small.turns.drain(..calls);
+    }
+}
+
+fn sets_up(call: &Call) -> bool {
+    matches!(
+        call,
+        Call::Reset { .. }
+            | Call::SetInputs { .. }
+            | Call::SetRegion { .. }
+            | Call::SetDefaultRights { .. }
+            | Call::SetInfoPage { .. }
+            | Call::SetBankErase { .. }
+            | Call::Initialise { .. }
+    )
 }
 
 /// The shrunk run as text; if a call in it never ends, what is known without it.
