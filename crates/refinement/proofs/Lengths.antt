@@ -3,7 +3,8 @@ use mathlib.Core.Bool.{Bool}
 use mathlib.Core.List.{List}
 use Prim.Native.Nat.{ℕ}
 use Rattle.model.specs.declared.Controller.{Controller}
-use Rattle.registers.specs.Registers.{put_region, put_setting, put_erase, put_from_physical, put_from_errors, put_from_programs, put_from_reads, put_from_progress, put_from_erase, put_from_info, put_from_regions, put_from_inputs, put, hand_back}
+use Rattle.registers.specs.Registers.{put_region, put_setting, put_erase, put_from_physical, put_from_errors, put_from_programs, put_from_reads}
+use Rattle.registers.specs.Registers.{put_from_progress, put_from_erase, put_from_info, put_from_regions, put_from_inputs, put, hand_back}
 use Rattle.registers.proofs.Stored.{Long, long_set, long_sets, long_all, long_region, long_setting, long_erase, long_progress, long_queue, cond_long}
 
 long_put : (s : List ℕ) (c : Controller) → Long s → Long (put s c)

@@ -12,12 +12,14 @@ use lib.Seq.{get_or-set_same}
 use Rattle.model.proofs.Bool.{which, and_left, and_right}
 use borrow.Author.Tests.{eqb-true, eqb-false, ltb-true, ltb-false, leb-true}
 use Rattle.scan_queue.specs.Payload.{Scan, Payload, Malformed, Holds, all, bytes_of, words_of, payload_of, written}
-use Rattle.scan_queue.specs.Slots.{blank, words_at, Slot, Unused, Dead, Waiting, Taken, Odd, sealed_of, slot_at, Wait, Nothing, This, waits, serial_of, is_unused, slots_from, places, Pages, Entry, sorted, queue, scans, waiting_list, highest}
+use Rattle.scan_queue.specs.Slots.{blank, words_at, Slot, Unused, Dead, Waiting, Taken, Odd, sealed_of, slot_at, Wait, Nothing}
+use Rattle.scan_queue.specs.Slots.{This, waits, serial_of, is_unused, slots_from, places, Pages, Entry, sorted, queue, scans, waiting_list, highest}
 use Rattle.scan_queue.specs.Decisions.{Decision, Refused, Erases, Room, None, At, first_unused, is_nothing, none_waits, into, new_scan, write, taking, take_oldest}
 use Rattle.scan_queue.specs.Cuts.{Step, Program, does, run, erases, plan, Plan, NoSteps, Steps, fills, ScanCall, Write, Take, steps_of, after, cut, when_done, tail, list_after}
 use Rattle.scan_queue.proofs.Order.{In, here, there, Spread, none, one, entries_same, one_more, one_less, head_in}
 use Rattle.scan_queue.proofs.Encoding.{Below, Fits, bytes_words, words_below, words_length, written_length, written_below, payload_written}
-use Rattle.scan_queue.proofs.Words.{words_same, seal_blank, marked, does_other, slot_other, Still, still_take, still_all, still_append, run_append, run_length, below, above, passed, programs_still, programs_other, programs_words, Ahead, erases_still, erases_blank}
+use Rattle.scan_queue.proofs.Words.{words_same, seal_blank, marked, does_other, slot_other, Still, still_take, still_all, still_append, run_append}
+use Rattle.scan_queue.proofs.Words.{run_length, below, above, passed, programs_still, programs_other, programs_words, Ahead, erases_still, erases_blank}
 
 -- ---- places
 

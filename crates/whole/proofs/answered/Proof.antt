@@ -26,6 +26,10 @@ returns c =
     let t = c.before.before.before.before.before.before.before.before in
     rw (t.requires.1 ∙ accepted_told _ _ (accepted t)) c.started.ensures
 
+-- In that of a denied read.
+denied : (c : tie.Then-is_denied_read) → is_denied_read c.args.o (number_of c.args.answer) ≡ true
+denied c = sym c.is_denied_read.ensures ∙ c.if-is_denied_read.true
+
 recorded_requires : tie.Need-recorded-errors-requires
 unfolding stands_for
 recorded_requires c κs =
@@ -34,16 +38,18 @@ recorded_requires c κs =
 read_requires : tie.Need-read-requires
 unfolding stands_for
 read_requires c κs =
+    let d = denied c.before.before.before in
     let h = c.requires.0 in
     let at = stands_for c.args.s.now in
-    let goes : starts c.args.o (operation_answer (setup_of c.args.s.now) c.args.o) ≡ true = rw (rw c.requires.1 at (sym c.is_denied_read.ensures ∙ c.if-is_denied_read.true), or-true) in
-    (placed at _ c.args.o h.free goes, read_room at _ c.args.o h.free c.args.buffer.now h.room goes (and_left (is_read c.args.o) _ (sym c.is_denied_read.ensures ∙ c.if-is_denied_read.true)))
+    let goes : starts c.args.o (operation_answer (setup_of c.args.s.now) c.args.o) ≡ true = rw (rw c.requires.1 at d, or-true) in
+    (placed at _ c.args.o h.free goes, read_room at _ c.args.o h.free c.args.buffer.now h.room goes (and_left (is_read c.args.o) _ d))
 
 returns_2 : tie.Need-returns-then-is_denied_read
 unfolding stands_for
 returns_2 c =
+    let d = denied c.before.before.before.before.before.before.before.before.before in
     let no : accepts c.args.answer ≡ false = sym c.accepts.ensures ∙ c.if-accepts.false in
-    let shown = rw (sym c.is_denied_read.ensures ∙ c.if-is_denied_read.true) at c.readable-readable.ensures in
+    let shown = rw d at c.readable-readable.ensures in
     rw (
       c.told.ensures,
       c.put_errors.ensures,
@@ -51,8 +57,8 @@ returns_2 c =
       c.read.ensures.1,
       c.recorded-errors.ensures,
       no,
-      (sym c.is_denied_read.ensures ∙ c.if-is_denied_read.true),
-      and_left (is_read c.args.o) _ (sym c.is_denied_read.ensures ∙ c.if-is_denied_read.true),
+      d,
+      and_left (is_read c.args.o) _ d,
       ← shown,
     )
     (left_denied _ (flash c.args.image.now) c.args.o c.args.buffer.now c.requires.0.encodes c.args.answer c.requires.1 no _ _)
