@@ -4,8 +4,7 @@
  *     ./lurgabel run examples/queue.c
  *
  * It keeps its scans in a queue in the flash, loses its battery in the middle of a write, finds the scans again and
- * sends them in order. Then it makes the mistake that the bench is there for: it erases a page that it takes for its
- * own, and asks who refused.
+ * sends them in order.
  */
 #include <inttypes.h>
 #include <stdbool.h>
@@ -18,11 +17,10 @@
 #define DATA_PAGES 16u  /* in each bank */
 #define IMAGE_WORDS LURGABEL_IMAGE_WORDS(DATA_PAGES)
 
-/* Pages 4 and 5 are ours and hold the queue. The meter list on page 6 belongs to another program. */
+/* Pages 4 and 5 are ours and hold the queue. */
 #define SCAN_PAGE 4u
 #define OTHER_SCAN_PAGE 5u
 #define OWN_PAGES 2u
-#define METER_PAGE 6u
 
 static uint32_t flash[IMAGE_WORDS];     /* keeps its words without power */
 static lurgabel_controller controller;  /* does not */
@@ -94,48 +92,8 @@ static uint32_t send_all(void) {
     return sent;
 }
 
-/* ---- a foreign page ------------------------------------------------------------------------------------------- */
-
-/* What the other program keeps: the bench puts it into the flash by hand. */
-static void fill_meter_page(void) {
-    uint32_t word;
-    for (word = 0; word < LURGABEL_PAGE_WORDS; word++) {
-        flash[METER_PAGE * LURGABEL_PAGE_WORDS + word] = 40000 + word;
-    }
-}
-
-static uint32_t meters_listed(void) {
-    const uint32_t *page = lurgabel_view(&controller, flash, IMAGE_WORDS, METER_PAGE, NULL);
-    uint32_t word = 0;
-    require(page != NULL, "the meter list cannot be read");
-    while (word < LURGABEL_PAGE_WORDS && page[word] == 40000 + word) {
-        word++;
-    }
-    return word;
-}
-
-/* The form of a call that ends in _by also says who decided. */
-static void erase_foreign_page(void) {
-    lurgabel_operation erase = {
-        .kind = LURGABEL_PAGE_ERASE,
-        .partition = LURGABEL_DATA,
-        .address = LURGABEL_ADDRESS(DATA_PAGES, 0u, METER_PAGE, 0u),
-    };
-    lurgabel_decider by;
-    lurgabel_answer answer = lurgabel_run_by(&controller, flash, IMAGE_WORDS, erase, NULL, 0, NULL, &by);
-    require(answer == LURGABEL_DENIED, "the erase of a foreign page was not refused");
-    printf("  refused by %s: %s (%d)\n", lurgabel_decider_text(by), lurgabel_answer_text(answer), (int)answer);
-}
-
-static void print_error_record(void) {
-    require(controller.recorded == LURGABEL_RECORDED(LURGABEL_DENIED), "another error is recorded");
-    printf("  recorded: %s, last address 0x%04" PRIX32 "\n", lurgabel_recorded_text(controller.recorded),
-           controller.last_address);
-}
-
 int main(void) {
     lurgabel_blank_image(flash, IMAGE_WORDS);
-    fill_meter_page();
 
     printf("battery in: pages 4 and 5 are ours, the others we may only read\n");
     battery_in();
@@ -154,10 +112,5 @@ int main(void) {
     printf("the scan that was cut is made again\n");
     keep("meter 40202, rack 9");
     require(send_all() == 1, "the scan is lost");
-
-    printf("a slip: erase page 6, the meter list\n");
-    erase_foreign_page();
-    print_error_record();
-    printf("  page 6 still lists %" PRIu32 " meters\n", meters_listed());
     return EXIT_SUCCESS;
 }
