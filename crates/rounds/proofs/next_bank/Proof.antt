@@ -14,9 +14,8 @@ next_bank_spec =
     let p = going_place c.requires in
     rw (c.operation-op.ensures, c.pages-d.ensures) (p.0, p.1, p.2, omega (arith, p.3, c.moved-moved.ensures)))
     (λ c κs. tt)
-    (λ c.
-    let o = c in (
-      rw (c.bank_of_word.ensures.0, c.place_of.ensures, c.moved-moved.ensures, o.operation-op.ensures, o.pages-d.ensures)
-          (going_bank o.requires),
+    (λ c. (
+      rw (c.bank_of_word.ensures.0, c.place_of.ensures, c.moved-moved.ensures, c.operation-op.ensures, c.pages-d.ensures)
+          (going_bank c.requires),
       c.bank_of_word.ensures.1,
     )))
