@@ -4,8 +4,8 @@ use mathlib.Core.Bool.{Bool, true, false, ◌&&◌, not}
 use Rattle.model.specs.Kinds.{is_program}
 use Rattle.model.specs.Refusals.{accepts, check}
 use Rattle.model.specs.Checks.{malformed, operation_answer}
-use Rattle.model.specs.declared.Answer.{Answer}
-use Rattle.model.specs.declared.Answer.TheVariants.{Malformed}
+use Rattle.model.specs.Refusals.{Answer}
+use Rattle.model.specs.declared.Refusal.TheVariants.{Malformed}
 use Rattle.model.specs.declared.Operation.{Operation}
 use Rattle.model.specs.declared.Setup.{Setup}
 use Rattle.model.proofs.Bool.{by_test}

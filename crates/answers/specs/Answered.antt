@@ -2,7 +2,7 @@
 use Rattle.std.specs.Prelude.{ℕ, ◌≤◌, ◌≡◌, List}
 use Rattle.model.specs.Checks.{operation_answer}
 use Rattle.model.specs.declared.Operation.{Operation}
-use Rattle.model.specs.declared.Answer.{Answer}
+use Rattle.model.specs.Refusals.{Answer}
 use Rattle.registers.specs.Registers.{stands_for}
 
 pub record Answered (s : List ℕ) (o : Operation) (a : Answer) : Type 0 where

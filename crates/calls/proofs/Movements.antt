@@ -1,4 +1,5 @@
 -- When a step tells a movement. Assumes nothing.
+use Rattle.std.specs.Prelude.{Some}
 use Prim.Native.Nat.{◌+◌}
 use mathlib.Core.Path.{◌≡◌, refl, sym}
 use mathlib.Core.Bool.{Bool, true, false, cond}
@@ -15,7 +16,7 @@ use Rattle.model.specs.declared.Controller.{Controller}
 use Rattle.model.proofs.StepLaws.{by_step}
 use Rattle.calls.specs.Calls.{tells_movement}
 
-last_moves : (last : Bool) → tells_movement (cond last Finished Moved) ≡ true
+last_moves : (last : Bool) → tells_movement (Some (cond last Finished Moved)) ≡ true
 last_moves true = refl
 last_moves false = refl
 

@@ -1,11 +1,11 @@
 -- What C and Rust hand in, as structs of numbers, and what it stands for. (house)
+use Rattle.std.specs.Prelude.{None, Some}
 use Rattle.std.specs.Prelude.{ℕ, cond, leb}
 use Rattle.model.specs.declared.Inputs.{Inputs}
 use Rattle.model.specs.declared.Region.{Region}
 use Rattle.model.specs.declared.PageSetting.{PageSetting}
 use Rattle.model.specs.declared.Operation.{Operation}
-use Rattle.model.specs.declared.HostRequest.{HostRequest}
-use Rattle.model.specs.declared.HostRequest.TheVariants.{Nothing, Word}
+use Rattle.model.specs.Rounds.{HostRequest}
 use Rattle.registers.specs.Registers.{is_on}
 use Rattle.calls.specs.declared.AskedRegion.{AskedRegion}
 use Rattle.calls.specs.declared.AskedSetting.{AskedSetting}
@@ -36,4 +36,4 @@ operation_of o = record {
 
 -- In a round the host asks the word at an address, or nothing: then no rule looks at the address.
 abbrev pub host_request_of : ℕ → ℕ → HostRequest
-host_request_of asks address = cond (is_on asks) (Word (record { 0 = address })) Nothing
+host_request_of asks address = cond (is_on asks) (Some (record { 0 = address })) None

@@ -1,11 +1,12 @@
 -- The calls on registers: what each tells, as numbers, and what it leaves of the registers, the flash and the buffer that it is
 -- lent. Each is the model's call on the controller that the registers stand for. (house)
+use Rattle.std.specs.Prelude.{None, Some, Option, replicate, Result, Ok, Err}
 use Rattle.std.specs.Prelude.{ℕ, Bool, ◌||◌, not, cond, List, eqb}
 use Rattle.model.specs.State.{Flash, Leaves}
-use Rattle.model.specs.Refusals.{number_of, reported, accepts}
+use Rattle.model.specs.Refusals.{refusal_number, number_of, reported, accepts}
 use Rattle.model.specs.Errors.{is_recorded, clear}
 use Rattle.model.specs.Settings.{set_inputs, set_region, set_default, set_info, set_erase}
-use Rattle.model.specs.Lifecycle.{reset, initialise, rma}
+use Rattle.model.specs.Lifecycle.{seed_words, reset, initialise, rma}
 use Rattle.model.specs.Steps.{start, push, pop, step}
 use Rattle.model.specs.Host.{host_read, view_answer, view}
 use Rattle.model.specs.Rounds.{round}
@@ -16,10 +17,11 @@ use Rattle.model.specs.declared.Inputs.{Inputs}
 use Rattle.model.specs.declared.Region.{Region}
 use Rattle.model.specs.declared.PageSetting.{PageSetting}
 use Rattle.model.specs.declared.Operation.{Operation}
-use Rattle.model.specs.declared.Answer.{Answer}
+use Rattle.model.specs.Refusals.{Answer, accepted}
+use Rattle.model.specs.declared.Refusal.{Refusal}
 use Rattle.model.specs.declared.Movement.{Movement}
-use Rattle.model.specs.declared.Movement.TheVariants.{None, Moved, Finished, Stalled}
-use Rattle.model.specs.declared.HostRequest.{HostRequest}
+use Rattle.model.specs.declared.Movement.TheVariants.{Moved, Finished, Stalled}
+use Rattle.model.specs.Rounds.{HostRequest}
 use Rattle.model.specs.declared.Turn.{Turn}
 use Rattle.model.specs.declared.Turn.TheVariants.{Unasked, Waiting, Served}
 use Rattle.model.specs.declared.HostTurn.{HostTurn}
@@ -28,8 +30,13 @@ use Rattle.model.specs.declared.Rounded.{Rounded}
 use Rattle.model.specs.declared.Outcome.{Outcome}
 use Rattle.model.specs.declared.Fetched.{Fetched}
 use Rattle.model.specs.declared.Stepped.{Stepped}
+use Rattle.model.specs.declared.Seeds.{Seeds}
 use Rattle.model.specs.declared.Initialised.{Initialised}
-use Rattle.registers.specs.Registers.{flag_of, decode, hand_back, cleared}
+use Rattle.registers.specs.Registers.{decode, hand_back, cleared}
+use Rattle.calls.specs.declared.Step.{Step}
+use Rattle.calls.specs.declared.Side.{Side}
+use Rattle.calls.specs.declared.Side.TheVariants as side
+use Rattle.calls.specs.declared.Round.{Round}
 use Rattle.calls.specs.declared.ToldAnswer.{ToldAnswer}
 use Rattle.calls.specs.declared.ToldWord.{ToldWord}
 use Rattle.calls.specs.declared.ToldHostWord.{ToldHostWord}
@@ -63,12 +70,33 @@ pub record LeftBuffer (Told : Type 0) : Type 0 where
 abbrev pub told_answer : Answer → ToldAnswer
 told_answer a = record { answer = number_of a; decider = reported a }
 
+-- The answer of a call that hands back a value where it is accepted,
+abbrev pub answer_of : {A : Type 0} → Result A Refusal → Answer
+answer_of (Ok x) = accepted
+answer_of (Err r) = Err r
+
+-- and the number that it hands back: 0 where it is refused.
+abbrev pub or_zero : Result ℕ Refusal → ℕ
+or_zero (Ok n) = n
+or_zero (Err r) = 0
+
+abbrev pub told_word : Result ℕ Refusal → ToldWord
+told_word r = record { answer = number_of (answer_of r); word = or_zero r }
+
 -- What is told of a movement.
-abbrev pub movement_number : Movement → ℕ
+abbrev pub movement_number : Option Movement → ℕ
 movement_number None = 0
-movement_number Moved = 1
-movement_number Finished = 2
-movement_number Stalled = 3
+movement_number (Some Moved) = 1
+movement_number (Some Finished) = 2
+movement_number (Some Stalled) = 3
+
+-- What is told of a step.
+abbrev pub told_step : Result Step Refusal → ToldStep
+told_step (Ok step) = record { answer = 0; movement = movement_number (Some step.movement); bits = step.bits }
+told_step (Err r) = record { answer = refusal_number r; movement = movement_number None; bits = 0 }
+
+abbrev pub told_host_word : Answer → ℕ → ToldHostWord
+told_host_word a w = record { answer = number_of a; decider = reported a; word = w }
 
 -- ---- calls that change the registers where they are accepted, and leave every register as it was where they are refused
 
@@ -105,14 +133,23 @@ word_left s r = record {
 unfoldable pub pop_in : List ℕ → Left ToldWord
 pop_in s = word_left s (pop (decode s))
 
+-- The seeds, or zeros where none are handed out.
+abbrev pub told_seeds : Answer → Option Seeds → ToldSeeds
+told_seeds a None = record {
+  answer = number_of a;
+  creator = replicate seed_words 0;
+  owner = replicate seed_words 0;
+  given = 0;
+}
+told_seeds a (Some seeds) = record { answer = number_of a; creator = seeds.creator; owner = seeds.owner; given = 1 }
+
+abbrev pub seeds_or_none : Result (Option Seeds) Refusal → Option Seeds
+seeds_or_none (Ok seeds) = seeds
+seeds_or_none (Err r) = None
+
 abbrev pub seeds_left : List ℕ → Initialised → Left ToldSeeds
 seeds_left s r = record {
-  told = record {
-    answer = number_of r.answer;
-    creator = r.seeds.creator;
-    owner = r.seeds.owner;
-    given = flag_of r.seeds.given;
-  };
+  told = told_seeds r.answer r.seeds;
   registers = hand_back (accepts r.answer) s r.controller;
 }
 
@@ -162,9 +199,36 @@ step_told t = record {
   bits = t.bits;
 }
 
+-- What code says of a side, as it is told: of one that asked nothing, of one that waits, and of one that was served.
+abbrev pub host_turn_told : ℕ → Result ℕ Refusal → ToldHostTurn
+host_turn_told turn r = record {
+  turn = turn;
+  answer = number_of (answer_of r);
+  decider = reported (answer_of r);
+  word = or_zero r;
+}
+
+abbrev pub told_host_turn : Side (Result ℕ Refusal) → ToldHostTurn
+told_host_turn side.Unasked = host_turn_told 0 (Ok 0)
+told_host_turn side.Waiting = host_turn_told 1 (Ok 0)
+told_host_turn (side.Served r) = host_turn_told 2 r
+
+abbrev pub told_step_turn : Side (Result Step Refusal) → ToldStepTurn
+told_step_turn side.Unasked = record { turn = 0; answer = 0; movement = movement_number None; bits = 0 }
+told_step_turn side.Waiting = record { turn = 1; answer = 0; movement = movement_number (Some Stalled); bits = 0 }
+told_step_turn (side.Served r) = record {
+  turn = 2;
+  answer = (told_step r).answer;
+  movement = (told_step r).movement;
+  bits = (told_step r).bits;
+}
+
+abbrev pub told_round : Round → ToldRound
+told_round r = record { host = told_host_turn r.host; step = told_step_turn r.step }
+
 -- A round changes registers where its step is asked and not refused: it moves a word, or loses its turn and is counted. That
 -- is told by the movement.
-abbrev pub tells_movement : Movement → Bool
+abbrev pub tells_movement : Option Movement → Bool
 tells_movement m = not (eqb (movement_number m) 0)
 
 abbrev pub round_left : List ℕ → Leaves Rounded → LeftFlash ToldRound
@@ -211,9 +275,6 @@ unfoldable pub whole_in : List ℕ → Flash → Operation → List ℕ → Left
 whole_in s f o b = whole_left s (whole (decode s) f o b)
 
 -- ---- calls that look at the registers and change nothing
-
-abbrev pub told_host_word : Answer → ℕ → ToldHostWord
-told_host_word a w = record { answer = number_of a; decider = reported a; word = w }
 
 unfoldable pub host_read_in : List ℕ → Flash → ByteAddress → ToldHostWord
 host_read_in s f a = told_host_word (host_read (decode s) f a).answer (host_read (decode s) f a).word

@@ -17,8 +17,8 @@ use Rattle.model.specs.Whole.{whole_answer, short_buffer}
 use Rattle.model.specs.declared.Operation.{Operation}
 use Rattle.model.specs.declared.Controller.{Controller}
 use Rattle.model.specs.declared.Outcome.{Outcome}
-use Rattle.model.specs.declared.Answer.{Answer}
-use Rattle.model.specs.declared.Answer.TheVariants.{ShortBuffer}
+use Rattle.model.specs.Refusals.{Answer}
+use Rattle.model.specs.declared.Refusal.TheVariants.{ShortBuffer}
 use Rattle.model.proofs.Bool.{which}
 use Rattle.model.proofs.Free.{whole_free, free_start}
 use Rattle.plans.proofs.Wholes.{long}

@@ -1,4 +1,5 @@
 -- The calls for one word, by the tests that the code makes. Assumes nothing.
+use Rattle.std.specs.Prelude.{None, Some}
 use Prim.Native.Nat.{ℕ, ◌+◌, ◌≤◌, ◌<◌}
 use native.Mathlib.Numerals.{add-one}
 use native.Mathlib.Omega.{arith}
@@ -16,8 +17,7 @@ use Rattle.model.specs.Steps.{stalls, counted_bits, advance, step_progress, step
 use Rattle.model.specs.declared.Operation.{Operation}
 use Rattle.model.specs.declared.Work.{Work}
 use Rattle.model.specs.declared.Work.TheVariants.{Read, Program, Erase}
-use Rattle.model.specs.declared.Progress.{Progress}
-use Rattle.model.specs.declared.Progress.TheVariants.{Idle, Running}
+use Rattle.model.specs.State.{Progress}
 use Rattle.model.specs.declared.Controller.{Controller}
 use Rattle.model.proofs.Bool.{which}
 use Rattle.model.proofs.Words.{changed_at_most}
@@ -37,8 +37,8 @@ advance_few c f (Erase o k) = changed_at_most _ _
 
 progress_few : (c : Controller) (f : Flash) (p : Progress) → (step_progress c f p).result.bits ≤ 32
 unfolding step_progress
-progress_few c f Idle = omega arith
-progress_few c f (Running w) = ⊎_elim (λ e. rw e (omega arith)) (λ e. rw e (advance_few c f w)) (which (stalls c.queues w))
+progress_few c f None = omega arith
+progress_few c f (Some w) = ⊎_elim (λ e. rw e (omega arith)) (λ e. rw e (advance_few c f w)) (which (stalls c.queues w))
 
 step_few : (c : Controller) (f : Flash) → (step c f).result.bits ≤ 32
 unfolding step

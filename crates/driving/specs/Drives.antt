@@ -6,8 +6,8 @@ use Rattle.model.specs.State.{Flash}
 use Rattle.model.specs.Refusals.{number_of, reported, accepts, is_denied_read}
 use Rattle.model.specs.Whole.{whole_answer, short_buffer}
 use Rattle.model.specs.declared.Operation.{Operation}
-use Rattle.model.specs.declared.Answer.{Answer}
-use Rattle.model.specs.declared.Answer.TheVariants.{ShortBuffer}
+use Rattle.model.specs.Refusals.{Answer}
+use Rattle.model.specs.declared.Refusal.TheVariants.{ShortBuffer}
 use Rattle.registers.specs.Registers.{flag_of, setup_of, decode}
 use Rattle.calls.specs.Calls.{Left, LeftFlash, LeftBuffer, start_in, step_in, push_in, pop_in}
 use Rattle.calls.specs.declared.ToldAnswer.{ToldAnswer}

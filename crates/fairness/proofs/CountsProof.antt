@@ -1,4 +1,5 @@
 -- What changes a lost count. Assumes nothing.
+use Rattle.std.specs.Prelude.{None, Some}
 use mathlib.Core.Path.{◌≡◌, refl}
 use mathlib.Core.Bool.{Bool, true, false, not, cond, true≢false}
 use Rattle.model.specs.State.{with_inputs, with_settings, with_errors, no_errors}
@@ -10,9 +11,8 @@ use Rattle.model.specs.Valid.{valid}
 use Rattle.model.specs.Steps.{start_answer, start, push_answer, push, pop_answer, pop}
 use Rattle.model.specs.Host.{host_read}
 use Rattle.model.specs.Rounds.{round}
-use Rattle.model.specs.declared.HostRequest.TheVariants.{Nothing, Word}
 use Rattle.model.specs.declared.Settings.{Settings}
-use Rattle.model.specs.declared.Answer.TheVariants.{Invalid}
+use Rattle.model.specs.declared.Refusal.TheVariants.{Invalid}
 use Rattle.model.specs.declared.Controller.{Controller}
 use Rattle.model.proofs.Bool.{by_test}
 use Rattle.model.proofs.Rounds.{step_leaves_alone}
@@ -53,7 +53,7 @@ counts_stay s (HostRead x) r a = refl
 counts_stay s (ViewPage p) r a = refl
 counts_stay s Clear r a = either (accepts (check (not (valid s.controller)) Invalid)) (with_errors s.controller no_errors) s.controller refl
 counts_stay s Rma r a = either (accepts (rma_answer s.controller s.flash)) (rma_controller s.controller) s.controller refl
-counts_stay s (Round Nothing false) r a = refl
-counts_stay s (Round Nothing true) r a = absurd (true≢false a)
-counts_stay s (Round (Word x) false) r a = refl
-counts_stay s (Round (Word x) true) r a = absurd (true≢false a)
+counts_stay s (Round None false) r a = refl
+counts_stay s (Round None true) r a = absurd (true≢false a)
+counts_stay s (Round (Some x) false) r a = refl
+counts_stay s (Round (Some x) true) r a = absurd (true≢false a)

@@ -1,4 +1,5 @@
 -- While a step that could move a word waits, no call but reset takes that from it. Assumes nothing.
+use Rattle.std.specs.Prelude.{None, Some}
 use Prim.Native.Nat.{ℕ, ◌+◌, ◌<◌}
 use native.Mathlib.Omega.{arith}
 use mathlib.Core.Path.{◌≡◌, refl}
@@ -24,9 +25,8 @@ use Rattle.model.specs.declared.Queues.{Queues}
 use Rattle.model.specs.declared.Physical.{Physical}
 use Rattle.model.specs.declared.Work.{Work}
 use Rattle.model.specs.declared.Work.TheVariants.{Read, Program, Erase}
-use Rattle.model.specs.declared.HostRequest.TheVariants.{Nothing, Word}
-use Rattle.model.specs.declared.Answer.{Answer}
-use Rattle.model.specs.declared.Answer.TheVariants.{Invalid, Disabled}
+use Rattle.model.specs.Refusals.{Answer}
+use Rattle.model.specs.declared.Refusal.TheVariants.{Invalid, Disabled}
 use Rattle.model.specs.declared.Controller.{Controller}
 use Rattle.model.proofs.Bool.{by_test}
 use Rattle.model.proofs.Valid.{changed}
@@ -192,11 +192,11 @@ module _ (s : State) (shaped : Shaped s.controller) (could : would_move s.contro
   step_moves = rw (goes_moves s.controller s.flash going) (advance_moves s.controller s.flash going.work)
 
   -- In a round of both the host goes, and the bank loses a turn, or a word moves.
-  both_after : {a : ByteAddress} → BothAsked s.controller s.flash a → After s (Round (Word a) true)
+  both_after : {a : ByteAddress} → BothAsked s.controller s.flash a → After s (Round (Some a) true)
   unfolding perform host_read
   both_after {a} (host t few e) =
       let after = (host_goes s.controller s.flash a).result.controller in
-      kept (remade (Round (Word a) true) s.controller.errors s.controller.queues after.physical 1 (rw e) going.flows
+      kept (remade (Round (Some a) true) s.controller.errors s.controller.queues after.physical 1 (rw e) going.flows
       (host_goes_counts s.controller s.flash a shaped.lost))
   both_after (instead t many e) = moved (rw e step_moves)
   both_after (both t e) = moved (rw e step_moves)
@@ -221,7 +221,7 @@ module _ (s : State) (shaped : Shaped s.controller) (could : would_move s.contro
   after (ViewPage p) h = kept (unchanged _ refl)
   after Clear h = kept clear_kept
   after Rma h = kept (unchanged _ (rw rma_refused))
-  after (Round Nothing false) h = kept (unchanged _ refl)
-  after (Round Nothing true) h = moved step_moves
-  after (Round (Word a) false) h = kept (unchanged _ refl)
-  after (Round (Word a) true) h = both_after (both_asked s.controller s.flash a)
+  after (Round None false) h = kept (unchanged _ refl)
+  after (Round None true) h = moved step_moves
+  after (Round (Some a) false) h = kept (unchanged _ refl)
+  after (Round (Some a) true) h = both_after (both_asked s.controller s.flash a)

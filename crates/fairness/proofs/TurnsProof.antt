@@ -1,4 +1,5 @@
 -- Both are served where they do not compete, and a host waits once. Assumes nothing.
+use Rattle.std.specs.Prelude.{Some}
 use Prim.Native.Nat.{ℕ}
 use native.Mathlib.Omega.{arith}
 use mathlib.Core.Path.{◌≡◌, refl, sym, ◌∙◌}
@@ -7,7 +8,6 @@ use Rattle.model.specs.State.{Flash}
 use Rattle.model.specs.Host.{host_read}
 use Rattle.model.specs.Rounds.{next_bank, host_bank, competes, lost_in, round}
 use Rattle.model.specs.declared.ByteAddress.{ByteAddress}
-use Rattle.model.specs.declared.HostRequest.TheVariants.{Word}
 use Rattle.model.specs.declared.Turn.TheVariants.{Waiting, Served}
 use Rattle.model.specs.declared.Controller.{Controller}
 use Rattle.model.proofs.Rounds.{step_leaves_alone, step_goes_counts, one_bank, BothAsked, host, instead, both, both_asked}
@@ -29,7 +29,7 @@ both_served s a h = both_serves s a (both_asked s.controller s.flash a) h
 
 -- Where the bank has lost no turn, the host is served.
 low_served : (c : Controller) (f : Flash) {a : ByteAddress} → BothAsked c f a → lost_in c (host_bank c.setup.pages a) ≡ 0
-    → (round c f (Word a) true).result.host.turn ≡ Served
+    → (round c f (Some a) true).result.host.turn ≡ Served
 low_served c f (host t few e) z = rw e
 low_served c f {a} (instead t many e) z =
     let none : lost_in c (next_bank c) ≡ 0 = rw (one_bank c f a t) at z in absurd (omega arith)
@@ -37,7 +37,7 @@ low_served c f (both t e) z = rw e
 
 -- So is it where the step is not asked.
 served_low : (s : State) (a : ByteAddress) (b : Bool) → lost_in s.controller (host_bank s.controller.setup.pages a) ≡ 0
-    → (perform s (Round (Word a) b)).reply.host.turn ≡ Served
+    → (perform s (Round (Some a) b)).reply.host.turn ≡ Served
 unfolding perform round
 served_low s a false z = refl
 served_low s a true z = low_served s.controller s.flash (both_asked s.controller s.flash a) z
@@ -48,9 +48,9 @@ never h = let z : ◌≡◌ {A = ℕ} 0 1 = cc in absurd (omega arith)
 
 -- A host that waited lost its turn to the step, and so its bank's count returned to 0.
 waited : (s : State) (a next : ByteAddress) (again : Bool) → BothAsked s.controller s.flash a
-    → (perform s (Round (Word a) true)).reply.host.turn ≡ Waiting
+    → (perform s (Round (Some a) true)).reply.host.turn ≡ Waiting
     → host_bank s.controller.setup.pages next ≡ host_bank s.controller.setup.pages a
-    → (perform (perform s (Round (Word a) true)).state (Round (Word next) again)).reply.host.turn ≡ Served
+    → (perform (perform s (Round (Some a) true)).state (Round (Some next) again)).reply.host.turn ≡ Served
 unfolding perform
 waited s a next again (host t few e) w same = never (rw e at w)
 waited s a next again (instead t many e) w same =

@@ -1,4 +1,5 @@
 -- Fair turns: a step that could move a word waits for at most five rounds, and a host read for at most one in its bank. (02, L1)
+use Rattle.std.specs.Prelude.{None, Some, Option}
 use Rattle.std.specs.Prelude.{ℕ, ◌+◌, ◌≤◌, ◌≡◌, Bool, true, false, ◌&&◌, ◌||◌, not, cond, List, [], ◌∷◌}
 use Rattle.model.specs.Geometry.{pages_fit}
 use Rattle.model.specs.State.{reset_physical}
@@ -7,8 +8,7 @@ use Rattle.model.specs.Host.{host_read}
 use Rattle.model.specs.Rounds.{would_move, next_bank, host_bank, competes, lost_in, host_served}
 use Rattle.model.specs.declared.ByteAddress.{ByteAddress}
 use Rattle.model.specs.declared.Movement.{Movement}
-use Rattle.model.specs.declared.Movement.TheVariants.{None, Moved, Finished, Stalled}
-use Rattle.model.specs.declared.HostRequest.TheVariants.{Word}
+use Rattle.model.specs.declared.Movement.TheVariants.{Moved, Finished, Stalled}
 use Rattle.model.specs.declared.Turn.TheVariants.{Waiting, Served}
 use Rattle.model.specs.declared.Controller.{Controller}
 use Rattle.promises.specs.Calls.{Call, State, Reply, Shaped, Reset, SetInputs, SetRegion, SetDefault, SetInfo, SetErase, Initialise, Start, Step, Push, Pop, Whole, HostRead, ViewPage, Clear, Rma, Round, with_turns, perform, run, replies}
@@ -68,11 +68,11 @@ asked [] = 0
 asked (k ∷ ks) = asked_by k + asked ks
 
 -- A step tells that a word moved, and one of a list of replies does.
-abbrev pub moves : Movement → Bool
+abbrev pub moves : Option Movement → Bool
 moves None = false
-moves Moved = true
-moves Finished = true
-moves Stalled = false
+moves (Some Moved) = true
+moves (Some Finished) = true
+moves (Some Stalled) = false
 
 abbrev pub moves_in : List Reply → Bool
 moves_in [] = false
@@ -111,7 +111,7 @@ SameWord =
 abbrev pub StartsAtZero : Type 0
 StartsAtZero = (s : State) (d : ℕ) → pages_fit d ≡ true → (perform s (Reset d)).state.controller.physical ≡ reset_physical
 
--- Nothing but reset and a round that asks the step changes a count.
+-- None but reset and a round that asks the step changes a count.
 abbrev pub CountsStay : Type 0
 CountsStay =
     (s : State) (k : Call) → is_reset k ≡ false → asks_step k ≡ false → (perform s k).state.controller.physical ≡ s.controller.physical
@@ -120,10 +120,10 @@ CountsStay =
 
 -- As by a host read and then a step; the lost counts stay.
 pub record ServesBoth (s : State) (a : ByteAddress) : Type 0 where
-  pub reply : (perform s (Round (Word a) true)).reply
+  pub reply : (perform s (Round (Some a) true)).reply
       ≡ with_turns (perform (perform s (HostRead a)).state Step).reply Served (host_served (host_read s.controller s.flash a))
-  pub state : (perform s (Round (Word a) true)).state ≡ (perform (perform s (HostRead a)).state Step).state
-  pub counts : (perform s (Round (Word a) true)).state.controller.physical ≡ s.controller.physical
+  pub state : (perform s (Round (Some a) true)).state ≡ (perform (perform s (HostRead a)).state Step).state
+  pub counts : (perform s (Round (Some a) true)).state.controller.physical ≡ s.controller.physical
 
 abbrev pub BothServed : Type 0
 BothServed = (s : State) (a : ByteAddress) → competes s.controller s.flash a ≡ false → ServesBoth s a
@@ -134,6 +134,6 @@ BothServed = (s : State) (a : ByteAddress) → competes s.controller s.flash a �
 -- the other bank it may wait again: with both counts at 5, a read over the border of the banks takes a turn of each.
 abbrev pub HostOnce : Type 0
 HostOnce =
-    (s : State) (a next : ByteAddress) (b again : Bool) → (perform s (Round (Word a) b)).reply.host.turn ≡ Waiting
+    (s : State) (a next : ByteAddress) (b again : Bool) → (perform s (Round (Some a) b)).reply.host.turn ≡ Waiting
     → host_bank s.controller.setup.pages next ≡ host_bank s.controller.setup.pages a
-    → (perform (perform s (Round (Word a) b)).state (Round (Word next) again)).reply.host.turn ≡ Served
+    → (perform (perform s (Round (Some a) b)).state (Round (Some next) again)).reply.host.turn ≡ Served

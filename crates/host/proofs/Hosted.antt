@@ -17,8 +17,8 @@ use Rattle.model.specs.Host.{read_answer, host_answer, host_read, view_answer, v
 use Rattle.model.specs.declared.Page.{Page}
 use Rattle.model.specs.declared.ByteAddress.{ByteAddress}
 use Rattle.model.specs.declared.Controller.{Controller}
-use Rattle.model.specs.declared.Answer.{Answer}
-use Rattle.model.specs.declared.Answer.TheVariants.{Malformed, OutOfRange}
+use Rattle.model.specs.Refusals.{Answer}
+use Rattle.model.specs.declared.Refusal.TheVariants.{Malformed, OutOfRange}
 use Rattle.registers.specs.Layout.{pages_at}
 use Rattle.registers.specs.Registers.{stands_for, decode}
 use Rattle.calls.specs.Calls.{told_host_word, told_start, host_read_in, view_in}
@@ -82,7 +82,7 @@ module _ (s : List ℕ) (f : Flash) where
           let (ready, rest) = both_accept (ready_answer (valid_with (decode s) f) (decode s).phase) (host_rest (decode s)) h in
           let fits = lent_fits (decode s) f (phase_answer (decode s).phase) ready in
           let range = (both_accept (check (past_data (decode s).setup.pages a) OutOfRange) _ (both_accept (check (unaligned a) Malformed) _ rest).1).0 in
-          let below : a.0 < 2 * (decode s).setup.pages * 1024 = leb-false _ _ (check_passed _ OutOfRange refl range) in
+          let below : a.0 < 2 * (decode s).setup.pages * 1024 = leb-false _ _ (check_passed _ OutOfRange range) in
           rw host_pages (fits.0, omega (arith, word_at_inside (decode s).setup.pages false 0 a (data_inside (decode s).setup.pages 0 (page_of a) (omega arith))))
 
       pub read_accepted : told_host_word (host_answer (decode s) f a) (delivered f (word_at (get_or s pages_at 0) false 0 a)) ≡ host_read_in s f a
@@ -127,7 +127,7 @@ module _ (s : List ℕ) (f : Flash) where
           let (ready, rest) = both_accept (ready_answer (valid_with (decode s) f) (decode s).phase) (view_rest (decode s)) h in
           let fits = lent_fits (decode s) f (phase_answer (decode s).phase) ready in
           let range = (both_accept (check (leb (data_pages (decode s).setup.pages) p.0) OutOfRange) _ rest).0 in
-          let below : p.0 < 2 * (decode s).setup.pages = leb-false _ _ (check_passed _ OutOfRange refl range) in
+          let below : p.0 < 2 * (decode s).setup.pages = leb-false _ _ (check_passed _ OutOfRange range) in
           rw view_pages (fits.0, omega arith, omega (arith, data_inside (decode s).setup.pages 0 p below))
 
       pub view_accepted : told_start (view_answer (decode s) f p) (first_word (image_page (get_or s pages_at 0) false 0 p)).0 ≡ view_in s f p

@@ -10,8 +10,8 @@ use Rattle.model.specs.Settings.{setting_answer, set_inputs}
 use Rattle.model.specs.Errors.{clear}
 use Rattle.model.specs.declared.Inputs.{Inputs}
 use Rattle.model.specs.declared.Controller.{Controller}
-use Rattle.model.specs.declared.Answer.{Answer}
-use Rattle.model.specs.declared.Answer.TheVariants.{Invalid, Busy, BadSetting}
+use Rattle.model.specs.Refusals.{Answer}
+use Rattle.model.specs.declared.Refusal.TheVariants.{Invalid, Busy, BadSetting}
 use Rattle.registers.specs.Registers.{encoded, stands_for, decode, progress_at, put, put_inputs, put_errors}
 use Rattle.calls.specs.Calls.{Left, outcome_left, set_inputs_in, clear_in}
 use Rattle.model.proofs.Bool.{by_test}
@@ -59,7 +59,7 @@ module _ (s : List ℕ) (next : Controller → Controller) (fits : Controller �
   taken : accepts a ≡ true → valid (decode s) ≡ true
   taken granted =
       let e = rw same at granted in
-      not-false _ (check_passed _ Invalid refl (both_accept (check (not (valid (decode s))) Invalid) _ e).0)
+      not-false _ (check_passed _ Invalid (both_accept (check (not (valid (decode s))) Invalid) _ e).0)
 
   fits_taken : accepts a ≡ true → fits (stands_for s) ≡ true
   fits_taken granted = (setting_passed (decode s) (fits (stands_for s)) (rw told at granted)).1

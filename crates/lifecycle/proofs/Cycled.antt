@@ -14,8 +14,8 @@ use Rattle.model.specs.Lifecycle.{reset, is_disabled, no_seeds, seeds_of, initia
 use Rattle.model.specs.declared.Controller.{Controller}
 use Rattle.model.specs.declared.Seeds.{Seeds}
 use Rattle.model.specs.declared.Phase.TheVariants as phase
-use Rattle.model.specs.declared.Answer.{Answer}
-use Rattle.model.specs.declared.Answer.TheVariants.{Invalid, Disabled, Busy, Unexpected}
+use Rattle.model.specs.Refusals.{Answer}
+use Rattle.model.specs.declared.Refusal.TheVariants.{Invalid, Disabled, Busy, Unexpected}
 use Rattle.registers.specs.Layout.{pages_at, phase_at, reads_from, programs_from}
 use Rattle.registers.specs.Registers.{flag_of, stands_for, decode, phase_of, inputs_at, progress_at, put, put_queue, cleared}
 use Rattle.calls.specs.Calls.{Left, seeds_left, rma_left, reset_in, initialise_in, rma_in}
@@ -54,7 +54,7 @@ module _ (s : List ℕ) (f : Flash) where
       by_test (valid_with (decode s) f) (λ h. ap (λ (c : Controller). or_else (check (not (valid_with (decode s) f)) Invalid) (rest c)) (sym (taken h))) (λ h. rw h)
 
   valid_with_lem : (rest : Answer) → accepts (or_else (check (not (valid_with (decode s) f)) Invalid) rest) ≡ true → valid_with (decode s) f ≡ true
-  valid_with_lem rest h = not-false _ (check_passed _ Invalid refl (both_accept (check (not (valid_with (decode s) f)) Invalid) rest h).0)
+  valid_with_lem rest h = not-false _ (check_passed _ Invalid (both_accept (check (not (valid_with (decode s) f)) Invalid) rest h).0)
 
   -- ---- initialise
 

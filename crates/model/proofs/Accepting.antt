@@ -1,4 +1,6 @@
 -- What start, push, pop and step leave, by what their checks say. Assumes nothing.
+use Rattle.std.specs.Prelude.{Err}
+use Rattle.std.specs.Prelude.{None, Some}
 use Prim.Native.Nat.{ℕ, ◌+◌, ◌≤◌, ◌<◌}
 use native.Mathlib.Omega.{arith}
 use mathlib.Core.Path.{◌≡◌, refl, sym, ap, ◌∙◌}
@@ -21,13 +23,13 @@ use Rattle.model.specs.Steps.{push_answer, push, pop_answer, stalls, advance, st
 use Rattle.model.specs.declared.Operation.{Operation}
 use Rattle.model.specs.declared.Work.{Work}
 use Rattle.model.specs.declared.Work.TheVariants.{Read, Program, Erase}
-use Rattle.model.specs.declared.Progress.TheVariants.{Idle, Running}
 use Rattle.model.specs.declared.Controller.{Controller}
 use Rattle.model.specs.declared.Stepped.{Stepped}
-use Rattle.model.specs.declared.Movement.TheVariants.{None, Stalled}
+use Rattle.model.specs.declared.Movement.TheVariants.{Stalled}
 use Rattle.model.specs.declared.Phase.{Phase}
-use Rattle.model.specs.declared.Answer.{Answer}
-use Rattle.model.specs.declared.Answer.TheVariants.{Accepted, Invalid, QueueEmpty, QueueFull, Unexpected, Busy, BadSetting}
+use Rattle.model.specs.Refusals.{Answer}
+use Rattle.model.specs.Refusals.{accepted}
+use Rattle.model.specs.declared.Refusal.TheVariants.{Invalid, QueueEmpty, QueueFull, Unexpected, Busy, BadSetting}
 use Rattle.model.specs.contracts.Work.{the_type}
 use Rattle.model.proofs.Bool.{which}
 use Rattle.model.proofs.Places.{span_address_fits, bank_words_le}
@@ -38,7 +40,7 @@ use Rattle.model.proofs.StepLaws.{step_ready}
 
 -- Checks 1, 2 and 3 accept a valid state only.
 pub ready_valid : (v : Bool) (p : Phase) → accepts (ready_answer v p) ≡ true → v ≡ true
-ready_valid v p h = not-false v (check_passed (not v) Invalid refl (both_accept (check (not v) Invalid) _ h).0)
+ready_valid v p h = not-false v (check_passed (not v) Invalid (both_accept (check (not v) Invalid) _ h).0)
 
 -- ---- push
 
@@ -56,46 +58,46 @@ module _ (c : Controller) (w : ℕ) where
   push_refused a h e n = simp (h, e, n)
 
   -- or accepted.
-  pub push_accepted : accepts (ready_answer (valid c) c.phase) ≡ true → push_answer c c.progress ≡ Accepted
-      → record { controller = with_queues c (with_programs c.queues (pushed c.queues.programs w)); answer = Accepted } ≡ push c w
+  pub push_accepted : accepts (ready_answer (valid c) c.phase) ≡ true → push_answer c c.progress ≡ accepted
+      → record { controller = with_queues c (with_programs c.queues (pushed c.queues.programs w)); answer = accepted } ≡ push c w
   unfolding push
   push_accepted h e = simp (h, e)
 
 -- What is in progress is no program: tag 1 is the program's.
-pub no_program : (c : Controller) (w : Work) → OneOf (0 ∷ 2 ∷ []) (tag_of the_type w) → push_answer c (Running w) ≡ Unexpected
+pub no_program : (c : Controller) (w : Work) → OneOf (0 ∷ 2 ∷ []) (tag_of the_type w) → push_answer c (Some w) ≡ Err Unexpected
 unfolding push_answer
 no_program c (Read o k r) h = refl
 no_program c (Program o k) h = absurd (⊎_elim (λ e. omega arith) (λ e. omega arith) h)
 no_program c (Erase o k) h = refl
 
-pub nothing_running : (c : Controller) → c.progress ≡ Idle → push_answer c c.progress ≡ Unexpected
+pub nothing_running : (c : Controller) → c.progress ≡ None → push_answer c c.progress ≡ Err Unexpected
 unfolding push_answer
 nothing_running c e = ap (push_answer c) e
 
 module _ (c : Controller) (o : Operation) (k : ℕ) where
   -- Of a program: 12 comes before 11,
-  pub all_pushed : leb o.count (k + c.queues.programs.len) ≡ true → push_answer c (Running (Program o k)) ≡ Unexpected
+  pub all_pushed : leb o.count (k + c.queues.programs.len) ≡ true → push_answer c (Some (Program o k)) ≡ Err Unexpected
   unfolding push_answer
   all_pushed h = rw h
 
   pub programs_full : leb o.count (k + c.queues.programs.len) ≡ false → is_full c.queues.programs ≡ true
-      → push_answer c (Running (Program o k)) ≡ QueueFull
+      → push_answer c (Some (Program o k)) ≡ Err QueueFull
   unfolding push_answer
   programs_full h q = rw (h, q)
 
   pub programs_room : leb o.count (k + c.queues.programs.len) ≡ false → is_full c.queues.programs ≡ false
-      → push_answer c (Running (Program o k)) ≡ Accepted
+      → push_answer c (Some (Program o k)) ≡ accepted
   unfolding push_answer
   programs_room h q = rw (h, q)
 
   -- and an accepted push passes both.
-  pub push_passed : accepts (push_answer c (Running (Program o k))) ≡ true
+  pub push_passed : accepts (push_answer c (Some (Program o k))) ≡ true
       → (k + c.queues.programs.len < o.count) × (c.queues.programs.len < 16)
   unfolding push_answer
   push_passed h =
       let (some, room) = both_accept (check (leb o.count (k + c.queues.programs.len)) Unexpected) _ h in (
-        leb-false o.count (k + c.queues.programs.len) (check_passed _ Unexpected refl some),
-        leb-false 16 c.queues.programs.len (check_passed _ QueueFull refl room),
+        leb-false o.count (k + c.queues.programs.len) (check_passed _ Unexpected some),
+        leb-false 16 c.queues.programs.len (check_passed _ QueueFull room),
       )
 
 -- ---- pop
@@ -105,8 +107,8 @@ pub pop_passed : (c : Controller) → accepts (pop_answer c) ≡ true → (valid
 unfolding pop_answer
 pop_passed c h =
     let both = both_accept (check (not (valid c)) Invalid) _ h in
-    let some = eqb-false c.queues.reads.len 0 (check_passed (is_empty c.queues.reads) QueueEmpty refl both.1) in
-    (not-false (valid c) (check_passed (not (valid c)) Invalid refl both.0), omega (arith, some))
+    let some = eqb-false c.queues.reads.len 0 (check_passed (is_empty c.queues.reads) QueueEmpty both.1) in
+    (not-false (valid c) (check_passed (not (valid c)) Invalid both.0), omega (arith, some))
 
 -- ---- step
 
@@ -118,16 +120,16 @@ moved_small c w m =
     (which (is_bank_erase (operation_of w)))
 
 module _ (c : Controller) (f : Flash) where
-  pub step_idle : accepts (ready_answer (valid_with c f) c.phase) ≡ true → c.progress ≡ Idle → still c Unexpected None f ≡ step c f
+  pub step_idle : accepts (ready_answer (valid_with c f) c.phase) ≡ true → c.progress ≡ None → still c (Err Unexpected) None f ≡ step c f
   unfolding step_progress
   step_idle h e = sym (step_ready c f h e)
 
-  pub step_stalled : (w : Work) → accepts (ready_answer (valid_with c f) c.phase) ≡ true → c.progress ≡ Running w
-      → stalls c.queues w ≡ true → still c Accepted Stalled f ≡ step c f
+  pub step_stalled : (w : Work) → accepts (ready_answer (valid_with c f) c.phase) ≡ true → c.progress ≡ Some w
+      → stalls c.queues w ≡ true → still c accepted (Some Stalled) f ≡ step c f
   unfolding step_progress
   step_stalled w h e s = sym (step_ready c f h e ∙ rw s)
 
-  pub step_advances : (w : Work) → accepts (ready_answer (valid_with c f) c.phase) ≡ true → c.progress ≡ Running w
+  pub step_advances : (w : Work) → accepts (ready_answer (valid_with c f) c.phase) ≡ true → c.progress ≡ Some w
       → stalls c.queues w ≡ false → advance c f w ≡ step c f
   unfolding step_progress
   step_advances w h e s = sym (step_ready c f h e ∙ rw s)
@@ -145,7 +147,7 @@ pub lent_fits : (c : Controller) (f : Flash) (rest : Answer) → accepts (or_els
     → (c.setup.pages ≤ 256) × (length f.words ≡ image_words c.setup.pages)
 lent_fits c f rest h =
     let fits : valid_with c f ≡ true =
-    not-false _ (check_passed _ Invalid refl (both_accept (check (not (valid_with c f)) Invalid) rest h).0) in
+    not-false _ (check_passed _ Invalid (both_accept (check (not (valid_with c f)) Invalid) rest h).0) in
     ((pages_bound c (with_valid c f fits)).1, with_length c f fits)
 
 -- ---- settings
@@ -156,4 +158,4 @@ pub setting_passed : (c : Controller) (fits : Bool) → accepts (setting_answer 
 setting_passed c fits h =
     let r = (both_accept (check (not (valid c)) Invalid) _ h).1 in
     let (b, g) = both_accept (check (is_busy c.progress) Busy) _ r in
-    (check_passed _ Busy refl b, not-false fits (check_passed _ BadSetting refl g))
+    (check_passed _ Busy b, not-false fits (check_passed _ BadSetting g))

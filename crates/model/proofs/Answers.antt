@@ -1,4 +1,5 @@
 -- What an answer says of the checks behind it. Assumes nothing.
+use Rattle.std.specs.Prelude.{Err, Ok}
 use Prim.Native.Nat.{ℕ}
 use mathlib.Core.Path.{◌≡◌, refl, sym, ◌∙◌}
 use mathlib.Core.Bool.{Bool, true, false, ◌||◌, not, cond, true≢false}
@@ -9,8 +10,10 @@ use Rattle.model.specs.Rights.{denied, decider_of}
 use Rattle.model.specs.Refusals.{number_of, no_decider, reported, accepts, is_denied, check, or_else, ready_answer}
 use Rattle.model.specs.Checks.{malformed, out_of_range, crosses_window, operation_answer}
 use Rattle.model.specs.Errors.{is_recorded}
-use Rattle.model.specs.declared.Answer.{Answer}
-use Rattle.model.specs.declared.Answer.TheVariants.{Accepted, Invalid, Disabled, Uninitialised, Busy, Malformed, ShortBuffer, OutOfRange, CrossesWindow, Denied, QueueEmpty, QueueFull, Unexpected, BadSetting}
+use Rattle.model.specs.Refusals.{Answer}
+use Rattle.model.specs.Refusals.{accepted}
+use Rattle.model.specs.declared.Refusal.TheVariants.{Invalid, Disabled, Uninitialised, Busy, Malformed, ShortBuffer, OutOfRange, CrossesWindow, Denied, QueueEmpty, QueueFull, Unexpected, BadSetting}
+use Rattle.model.specs.declared.Refusal.{Refusal}
 use Rattle.model.specs.declared.Decider.{Decider}
 use Rattle.model.specs.declared.Phase.{Phase}
 use Rattle.model.specs.declared.Phase.TheVariants as phase
@@ -20,7 +23,13 @@ use Rattle.model.proofs.Bool.{by_test}
 
 -- A refusal does not accept.
 pub accepts_not : (a : Answer) → (number_of a ≡ 0 → ⊥) → accepts a ≡ false
-accepts_not a h = ne_eqb (number_of a) 0 h
+accepts_not (Ok done) h = absurd (h refl)
+accepts_not (Err r) h = refl
+
+-- There is one acceptance.
+pub accepted_is : (a : Answer) → accepts a ≡ true → a ≡ accepted
+accepted_is (Ok done) h = refl
+accepted_is (Err r) h = absurd (true≢false (sym h))
 
 -- Two checks accept only if each does.
 pub both_accept : (a b : Answer) → accepts (or_else a b) ≡ true → (accepts a ≡ true) × (accepts b ≡ true)
@@ -28,18 +37,18 @@ both_accept a b h =
     by_test (accepts a) (λ e. (e, rw e at h)) (λ e. absurd (true≢false (sym (rw e at h) ∙ e)))
 
 -- A check that accepts does not apply.
-pub check_passed : (t : Bool) (a : Answer) → accepts a ≡ false → accepts (check t a) ≡ true → t ≡ false
-check_passed true a n h = absurd (true≢false (sym h ∙ n))
-check_passed false a n h = refl
+pub check_passed : (t : Bool) (r : Refusal) → accepts (check t r) ≡ true → t ≡ false
+check_passed true r h = absurd (true≢false (sym h))
+check_passed false r h = refl
 
 -- Checks 1, 2 and 3 come in this order.
-pub first_invalid : (p : Phase) → ready_answer false p ≡ Invalid
+pub first_invalid : (p : Phase) → ready_answer false p ≡ Err Invalid
 first_invalid p = refl
 
-pub then_disabled : ready_answer true phase.Disabled ≡ Disabled
+pub then_disabled : ready_answer true phase.Disabled ≡ Err Disabled
 then_disabled = refl
 
-pub then_uninitialised : ready_answer true phase.Uninitialised ≡ Uninitialised
+pub then_uninitialised : ready_answer true phase.Uninitialised ≡ Err Uninitialised
 then_uninitialised = refl
 
 -- Checks 1, 2 and 3 pass: the controller is ready.
@@ -69,20 +78,9 @@ unrecorded_undenied n u =
 
 -- Only 9 reports who decided.
 pub undenied_reports_none : (a : Answer) → is_denied a ≡ false → reported a ≡ no_decider
-undenied_reports_none Accepted h = refl
-undenied_reports_none Invalid h = refl
-undenied_reports_none Disabled h = refl
-undenied_reports_none Uninitialised h = refl
-undenied_reports_none Busy h = refl
-undenied_reports_none Malformed h = refl
-undenied_reports_none ShortBuffer h = refl
-undenied_reports_none OutOfRange h = refl
-undenied_reports_none CrossesWindow h = refl
-undenied_reports_none (Denied by) h = absurd (true≢false h)
-undenied_reports_none QueueEmpty h = refl
-undenied_reports_none QueueFull h = refl
-undenied_reports_none Unexpected h = refl
-undenied_reports_none BadSetting h = refl
+undenied_reports_none (Ok done) h = refl
+undenied_reports_none (Err (Denied by)) h = absurd (true≢false h)
+undenied_reports_none (Err r) h = refl
 
 -- ---- checks 5, 7, 8 and 9, as four tests
 
@@ -126,7 +124,7 @@ first_two by false false false false h = (refl, refl, refl)
 
 -- and the answer is nothing but acceptance or 9.
 first_named : (by : Decider) (m r w d : Bool) → (accepts (first_of by m r w d) || is_denied (first_of by m r w d)) ≡ true
-    → first_of by m r w d ≡ cond (is_denied (first_of by m r w d)) (Denied by) Accepted
+    → first_of by m r w d ≡ cond (is_denied (first_of by m r w d)) (Err (Denied by)) accepted
 first_named by true r w d h = cc
 first_named by false true w d h = cc
 first_named by false false true d h = cc
@@ -159,5 +157,5 @@ module _ (s : Setup) (o : Operation) where
 
   -- and told just that.
   pub answer_named : (accepts (operation_answer s o) || is_denied (operation_answer s o)) ≡ true
-      → operation_answer s o ≡ cond (is_denied (operation_answer s o)) (Denied (decider_of s o)) Accepted
+      → operation_answer s o ≡ cond (is_denied (operation_answer s o)) (Err (Denied (decider_of s o))) accepted
   answer_named = rw in_order (first_named (decider_of s o) (malformed o) (out_of_range s.pages o) (crosses_window o) (denied s o))

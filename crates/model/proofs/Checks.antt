@@ -10,7 +10,7 @@ use Rattle.model.specs.Places.{span_words}
 use Rattle.model.specs.Refusals.{accepts, check}
 use Rattle.model.specs.Checks.{unaligned, bad_count, malformed}
 use Rattle.model.specs.declared.Operation.{Operation}
-use Rattle.model.specs.declared.Answer.TheVariants.{Malformed}
+use Rattle.model.specs.declared.Refusal.TheVariants.{Malformed}
 use Rattle.model.proofs.Bool.{or_left, or_right, by_test}
 
 -- Each test of check 5 fails.

@@ -22,14 +22,15 @@ use Rattle.model.specs.Whole.{turn, turns, whole_answer, drive, whole}
 use Rattle.model.specs.Bench.{open_pages, all_rights, bench, seeds_locked, nothing_given, held_twice, first_off, second_bank_closed, cut_reads, holds}
 use Rattle.model.specs.declared.Operation.{Operation}
 use Rattle.model.specs.declared.Setup.{Setup}
-use Rattle.model.specs.declared.Answer.{Answer}
-use Rattle.model.specs.declared.Answer.TheVariants.{Accepted, Malformed, OutOfRange, CrossesWindow, Denied}
+use Rattle.model.specs.Refusals.{Answer}
+use Rattle.model.specs.Refusals.{accepted}
+use Rattle.model.specs.declared.Refusal.TheVariants.{Malformed, OutOfRange, CrossesWindow, Denied}
 use Rattle.model.specs.declared.Decider.{Decider}
 use Rattle.model.proofs.Bool.{and_left, and_right, by_test}
 use Rattle.model.proofs.Places.{span_fits}
 use Rattle.model.proofs.Checks.{span_words_le}
 use Rattle.model.proofs.Rights.{before_denied, allowed_le, allowed_all}
-use Rattle.model.proofs.Answers.{asked_in_range, answer_named}
+use Rattle.model.proofs.Answers.{accepted_is, asked_in_range, answer_named}
 
 -- ---- settled by one computed statement
 
@@ -78,10 +79,8 @@ pub started_asked : (s : Setup) (o : Operation) → starts o (operation_answer s
 started_asked s o h = either (accepts (operation_answer s o)) (is_read o) (is_denied (operation_answer s o)) h
 
 -- What is accepted is told so.
-pub accepted_told : (s : Setup) (o : Operation) → accepts (operation_answer s o) ≡ true → operation_answer s o ≡ Accepted
-accepted_told s o h =
-    let undenied : is_denied (operation_answer s o) ≡ false = rw (eqb-true (number_of (operation_answer s o)) 0 h) in
-    answer_named s o (rw h) ∙ rw undenied
+pub accepted_told : (s : Setup) (o : Operation) → accepts (operation_answer s o) ≡ true → operation_answer s o ≡ accepted
+accepted_told s o h = accepted_is (operation_answer s o) h
 
 -- So all words of an accepted read are readable.
 pub accepted_readable : (s : Setup) (o : Operation) → is_read o ≡ true → accepts (operation_answer s o) ≡ true → o.count ≡ readable_words s o
@@ -92,7 +91,7 @@ module _ (s : Setup) (o : Operation) (r : is_read o ≡ false) (h : starts o (op
   pub others_accepted : accepts (operation_answer s o) ≡ true
   others_accepted = sym (or-false _) ∙ (rw r at h)
 
-  pub others_told : operation_answer s o ≡ Accepted
+  pub others_told : operation_answer s o ≡ accepted
   others_told = accepted_told s o others_accepted
 
 -- A read has no window to cross: it is accepted or denied if it passes 5 and 7.

@@ -1,5 +1,6 @@
 -- Checks 1 to 4 of a whole operation: they accept a controller that is valid, ready and free; and its answer past them. Assumes
 -- nothing.
+use Rattle.std.specs.Prelude.{None, Some}
 use Prim.Native.Nat.{ℕ}
 use mathlib.Core.Path.{◌≡◌, refl}
 use mathlib.Core.Bool.{true, false, ◌||◌, not, true≢false}
@@ -15,11 +16,10 @@ use Rattle.model.specs.Whole.{whole_answer, drive}
 use Rattle.model.specs.declared.Errors.{Errors}
 use Rattle.model.specs.declared.Queues.{Queues}
 use Rattle.model.specs.declared.Operation.{Operation}
-use Rattle.model.specs.declared.Progress.{Progress}
-use Rattle.model.specs.declared.Progress.TheVariants.{Idle, Running}
+use Rattle.model.specs.State.{Progress}
 use Rattle.model.specs.declared.Controller.{Controller}
 use Rattle.model.specs.declared.Outcome.{Outcome}
-use Rattle.model.specs.declared.Answer.TheVariants.{Busy}
+use Rattle.model.specs.declared.Refusal.TheVariants.{Busy}
 use Rattle.model.proofs.Bool.{and_left, and_right, or_left, or_right, by_test}
 use Rattle.model.proofs.Answers.{both_accept, check_passed, ready_passed, ready_accepts}
 use Rattle.model.proofs.Valid.{valid_parts}
@@ -31,20 +31,20 @@ use Rattle.model.proofs.Accepting.{ready_valid}
 pub record Free (c : Controller) : Type 0 where
   pub fits : valid c ≡ true
   pub ready : is_ready c.phase ≡ true
-  pub idle : c.progress ≡ Idle
+  pub idle : c.progress ≡ None
   pub reads : is_empty c.queues.reads ≡ true
   pub programs : is_empty c.queues.programs ≡ true
 
-not_busy : (p : Progress) → is_busy p ≡ false → p ≡ Idle
-not_busy Idle h = refl
-not_busy (Running w) h = absurd (true≢false h)
+not_busy : (p : Progress) → is_busy p ≡ false → p ≡ None
+not_busy None h = refl
+not_busy (Some w) h = absurd (true≢false h)
 
 -- It is, where these checks accept.
 pub whole_free : (c : Controller) (f : Flash) → accepts (whole_answer c f) ≡ true → Free c
 unfolding whole_answer
 whole_free c f h =
     let (r, b) = both_accept (ready_answer (valid_with c f) c.phase) _ h in
-    let free : (is_busy c.progress || not (both_empty c.queues)) ≡ false = check_passed _ Busy refl b in
+    let free : (is_busy c.progress || not (both_empty c.queues)) ≡ false = check_passed _ Busy b in
     let empty : both_empty c.queues ≡ true = not-false (both_empty c.queues) (or_right (is_busy c.progress) _ free) in
     record {
       fits = with_valid c f (ready_valid (valid_with c f) c.phase r);

@@ -1,4 +1,5 @@
 -- What a valid state says of the operation in progress: enough to move its next word. Assumes nothing.
+use Rattle.std.specs.Prelude.{Some}
 use Prim.Native.Nat.{◌≤◌, ◌<◌}
 use mathlib.Core.Path.{◌≡◌, sym, ap, ◌∙◌}
 use mathlib.Core.Bool.{true, false, ◌||◌, or-false}
@@ -11,7 +12,6 @@ use Rattle.model.specs.Checks.{out_of_range, operation_answer}
 use Rattle.model.specs.Valid.{running_fits, valid, valid_with}
 use Rattle.model.specs.declared.Work.{Work}
 use Rattle.model.specs.declared.Work.TheVariants.{Read, Program, Erase}
-use Rattle.model.specs.declared.Progress.TheVariants.{Running}
 use Rattle.model.specs.declared.Setup.{Setup}
 use Rattle.model.specs.declared.Controller.{Controller}
 use Rattle.model.proofs.Bool.{and_left, and_right}
@@ -45,7 +45,7 @@ pub record Moving (c : Controller) (w : Work) : Type 0 where
   pub inside : (place_of c.setup.pages (operation_of w) (moved_of w)).0 < image_words c.setup.pages
 
 -- Of a valid state with work in progress:
-module _ (c : Controller) (w : Work) (h : valid c ≡ true) (e : c.progress ≡ Running w) where
+module _ (c : Controller) (w : Work) (h : valid c ≡ true) (e : c.progress ≡ Some w) where
   -- it is ready,
   pub busy_ready : is_ready c.phase ≡ true
   busy_ready = simp (e, or-false) at (valid_parts c h).progress

@@ -1,4 +1,6 @@
 -- The order of refusals; that of a push, 12 before 11, is in `Accepting`. Assumes nothing.
+use Rattle.std.specs.Prelude.{Err}
+use Rattle.std.specs.Prelude.{None, Some}
 use Prim.Native.Nat.{ℕ, ◌≤◌}
 use mathlib.Core.Path.{◌≡◌}
 use mathlib.Core.Bool.{Bool, true, false, ◌||◌, not, and-false}
@@ -27,9 +29,9 @@ use Rattle.model.specs.declared.Setup.{Setup}
 use Rattle.model.specs.declared.Controller.{Controller}
 use Rattle.model.specs.declared.Phase.TheVariants as phase
 use Rattle.model.specs.declared.Work.{Work}
-use Rattle.model.specs.declared.Progress.TheVariants.{Idle, Running}
-use Rattle.model.specs.declared.Answer.{Answer}
-use Rattle.model.specs.declared.Answer.TheVariants.{Accepted, Invalid, Disabled, Busy, Malformed, ShortBuffer, OutOfRange, CrossesWindow, Denied, Unexpected, BadSetting}
+use Rattle.model.specs.Refusals.{Answer}
+use Rattle.model.specs.Refusals.{accepted}
+use Rattle.model.specs.declared.Refusal.TheVariants.{Invalid, Disabled, Busy, Malformed, ShortBuffer, OutOfRange, CrossesWindow, Denied, Unexpected, BadSetting}
 use Rattle.model.proofs.Bool.{and_left, and_right}
 use Rattle.model.proofs.Valid.{valid_parts}
 
@@ -61,20 +63,20 @@ wrong_image c f h = rw h (and-false (valid c))
 
 -- ---- the calls with other checks after 1
 
-pub phase_invalid : (c : Controller) (f : Flash) → valid_with c f ≡ false → PhaseCallsRefuse c f Invalid
+pub phase_invalid : (c : Controller) (f : Flash) → valid_with c f ≡ false → PhaseCallsRefuse c f (Err Invalid)
 unfolding initialise initialise_answer rma rma_answer
 phase_invalid c f h = record { initialises = rw h; rmas = rw h }
 
-pub phase_disabled : (c : Controller) (f : Flash) → valid_with c f ≡ true → c.phase ≡ phase.Disabled → PhaseCallsRefuse c f Disabled
+pub phase_disabled : (c : Controller) (f : Flash) → valid_with c f ≡ true → c.phase ≡ phase.Disabled → PhaseCallsRefuse c f (Err Disabled)
 unfolding initialise initialise_answer rma rma_answer
 phase_disabled c f h p = record { initialises = rw (h, p); rmas = rw (h, p) }
 
 pub initialise_ready : (c : Controller) (f : Flash) → valid_with c f ≡ true → c.phase ≡ phase.Ready
-    → (initialise c f).answer ≡ Unexpected
+    → (initialise c f).answer ≡ Err Unexpected
 unfolding initialise initialise_answer
 initialise_ready c f h p = rw (h, p)
 
-pub settings_invalid : (c : Controller) → valid c ≡ false → SettingsRefuse c Invalid
+pub settings_invalid : (c : Controller) → valid c ≡ false → SettingsRefuse c (Err Invalid)
 unfolding set_inputs configured set_region set_default set_info set_erase
 settings_invalid c h = record {
   inputs = λ i. rw h;
@@ -84,36 +86,36 @@ settings_invalid c h = record {
   erases = λ bank on. rw h;
 }
 
-pub record_invalid : (c : Controller) → valid c ≡ false → RecordCallsRefuse c Invalid
+pub record_invalid : (c : Controller) → valid c ≡ false → RecordCallsRefuse c (Err Invalid)
 unfolding pop pop_answer clear
 record_invalid c h = record { pops = rw h; clears = rw h }
 
 -- ---- 4: an operation in progress, before 5 and before 13
 
-pub start_busy : (c : Controller) (o : Operation) (w : Work) → valid c ≡ true → c.phase ≡ phase.Ready → c.progress ≡ Running w
-    → (start c o).answer ≡ Busy
+pub start_busy : (c : Controller) (o : Operation) (w : Work) → valid c ≡ true → c.phase ≡ phase.Ready → c.progress ≡ Some w
+    → (start c o).answer ≡ Err Busy
 unfolding start start_answer
 start_busy c o w h p r = rw (h, p, r)
 
 pub whole_busy : (c : Controller) (f : Flash) (o : Operation) (b : List ℕ) → valid_with c f ≡ true → c.phase ≡ phase.Ready
     → (is_busy c.progress || not (both_empty c.queues)) ≡ true
-    → (whole c f o b).result.answer ≡ Busy
+    → (whole c f o b).result.answer ≡ Err Busy
 unfolding whole whole_answer
 whole_busy c f o b h p q = rw (h, p, q)
 
-pub rma_busy : (c : Controller) (f : Flash) (w : Work) → valid_with c f ≡ true → c.phase ≡ phase.Ready → c.progress ≡ Running w
-    → (rma c f).result.answer ≡ Busy
+pub rma_busy : (c : Controller) (f : Flash) (w : Work) → valid_with c f ≡ true → c.phase ≡ phase.Ready → c.progress ≡ Some w
+    → (rma c f).result.answer ≡ Err Busy
 unfolding rma rma_answer
 rma_busy c f w h p r = rw (h, p, r)
 
 -- Settings are allowed in every phase: with nothing in progress only 13 refuses one.
-pub settings_any_phase : (c : Controller) (fits : Bool) → valid c ≡ true → c.progress ≡ Idle
+pub settings_any_phase : (c : Controller) (fits : Bool) → valid c ≡ true → c.progress ≡ None
     → setting_answer c fits ≡ check (not fits) BadSetting
 settings_any_phase c true h e = simp (h, e)
 settings_any_phase c false h e = simp (h, e)
 
 -- With an operation in progress, 4 comes before 13.
-pub settings_busy : (c : Controller) (w : Work) → valid c ≡ true → c.progress ≡ Running w → SettingsRefuse c Busy
+pub settings_busy : (c : Controller) (w : Work) → valid c ≡ true → c.progress ≡ Some w → SettingsRefuse c (Err Busy)
 unfolding set_inputs configured set_region set_default set_info set_erase
 settings_busy c w h r = record {
   inputs = λ i. rw (h, r);
@@ -126,38 +128,38 @@ settings_busy c w h r = record {
 -- ---- 5, 7, 8 and 9, in this order; of a whole operation 6 between 5 and 7
 
 module _ (s : Setup) (o : Operation) where
-  pub malformed_first : malformed o ≡ true → operation_answer s o ≡ Malformed
+  pub malformed_first : malformed o ≡ true → operation_answer s o ≡ Err Malformed
   unfolding operation_answer
   malformed_first h = rw h
 
-  pub range_second : malformed o ≡ false → out_of_range s.pages o ≡ true → operation_answer s o ≡ OutOfRange
+  pub range_second : malformed o ≡ false → out_of_range s.pages o ≡ true → operation_answer s o ≡ Err OutOfRange
   unfolding operation_answer
   range_second h r = rw (h, r)
 
   pub window_third : malformed o ≡ false → out_of_range s.pages o ≡ false → crosses_window o ≡ true
-      → operation_answer s o ≡ CrossesWindow
+      → operation_answer s o ≡ Err CrossesWindow
   unfolding operation_answer
   window_third h r w = rw (h, r, w)
 
   pub denied_last : malformed o ≡ false → out_of_range s.pages o ≡ false → crosses_window o ≡ false → denied s o ≡ true
-      → operation_answer s o ≡ Denied (decider_of s o)
+      → operation_answer s o ≡ Err (Denied (decider_of s o))
   unfolding operation_answer
   denied_last h r w d = rw (h, r, w, d)
 
   pub passes : malformed o ≡ false → out_of_range s.pages o ≡ false → crosses_window o ≡ false → denied s o ≡ false
-      → operation_answer s o ≡ Accepted
+      → operation_answer s o ≡ accepted
   unfolding operation_answer
   passes h r w d = rw (h, r, w, d)
 
 module _ (c : Controller) (o : Operation) where
   -- A malformed operation is refused with 5, however short the buffer; a short buffer with 6, wherever the span lies.
   pub malformed_before_short : (f : Flash) (b : List ℕ) → accepts (whole_answer c f) ≡ true → accepts (start_answer c) ≡ true
-      → malformed o ≡ true → (whole c f o b).result.answer ≡ Malformed
+      → malformed o ≡ true → (whole c f o b).result.answer ≡ Err Malformed
   unfolding whole start operation_answer drive
   malformed_before_short f b g s h = simp (g, s, h, and-false)
 
   pub short_before_range : (f : Flash) (b : List ℕ) → accepts (whole_answer c f) ≡ true → malformed o ≡ false → uses_count o ≡ true
-      → ltb (length b) o.count ≡ true → (whole c f o b).result.answer ≡ ShortBuffer
+      → ltb (length b) o.count ≡ true → (whole c f o b).result.answer ≡ Err ShortBuffer
   unfolding whole
   short_before_range f b g h u l = rw (g, h, u, l)
 
@@ -165,12 +167,12 @@ module _ (c : Controller) (o : Operation) where
 
 -- A host read and a view are allowed whatever is in progress.
 pub host_any_progress : (c : Controller) (f : Flash) (a : ByteAddress) → valid_with c f ≡ true → c.phase ≡ phase.Ready
-    → unaligned a ≡ false → past_data c.setup.pages a ≡ false → unreadable c.setup (page_of a) ≡ false → host_answer c f a ≡ Accepted
+    → unaligned a ≡ false → past_data c.setup.pages a ≡ false → unreadable c.setup (page_of a) ≡ false → host_answer c f a ≡ accepted
 unfolding host_answer
 host_any_progress c f a h p u d g = rw (h, u, d, g, p)
 
 pub view_any_progress : (c : Controller) (f : Flash) (p : Page) → valid_with c f ≡ true → c.phase ≡ phase.Ready
-    → leb (data_pages c.setup.pages) p.0 ≡ false → unreadable c.setup p ≡ false → view_answer c f p ≡ Accepted
+    → leb (data_pages c.setup.pages) p.0 ≡ false → unreadable c.setup p ≡ false → view_answer c f p ≡ accepted
 unfolding view_answer
 view_any_progress c f p h r d g = rw (h, d, g, r)
 

@@ -1,4 +1,5 @@
 -- When a step would move a word, the lost counts, and what a round of both leaves. Assumes nothing.
+use Rattle.std.specs.Prelude.{None, Some}
 use Prim.Native.Nat.{ℕ, zero, suc, ◌+◌, ◌*◌, ◌≤◌, ◌<◌, ◌/◌, ◌-◌, ◌%◌}
 use native.Mathlib.Omega.{arith}
 use mathlib.Core.Path.{◌≡◌, refl, sym, ap, ◌∙◌}
@@ -20,12 +21,10 @@ use Rattle.model.specs.declared.Page.{Page}
 use Rattle.model.specs.declared.ByteAddress.{ByteAddress}
 use Rattle.model.specs.declared.Work.{Work}
 use Rattle.model.specs.declared.Work.TheVariants.{Read, Program, Erase}
-use Rattle.model.specs.declared.Progress.{Progress}
-use Rattle.model.specs.declared.Progress.TheVariants.{Idle, Running}
-use Rattle.model.specs.declared.HostRequest.TheVariants.{Word, Nothing}
+use Rattle.model.specs.State.{Progress}
 use Rattle.model.specs.declared.Controller.{Controller}
 use Rattle.model.specs.declared.Stepped.{Stepped}
-use Rattle.model.specs.declared.Answer.TheVariants.{Accepted}
+use Rattle.model.specs.Refusals.{accepted}
 use Rattle.model.specs.declared.BusWord.{BusWord}
 use Rattle.model.proofs.Bool.{and_left, and_right, by_test}
 use Rattle.model.proofs.Valid.{valid_parts}
@@ -39,14 +38,14 @@ use Rattle.model.proofs.Geometry.{quotient}
 pub record Goes (c : Controller) (f : Flash) : Type 0 where
   pub work : Work
   pub ready : accepts (ready_answer (valid_with c f) c.phase) ≡ true
-  pub running : c.progress ≡ Running work
+  pub running : c.progress ≡ Some work
   pub flows : stalls c.queues work ≡ false
 
 module _ (c : Controller) (f : Flash) where
   progress_goes : (p : Progress) → c.progress ≡ p → accepts (ready_answer (valid_with c f) c.phase) ≡ true
       → goes c.queues p ≡ true → Goes c f
-  progress_goes Idle e r g = absurd (true≢false (sym g))
-  progress_goes (Running w) e r g = record { work = w; ready = r; running = e; flows = not-true _ g }
+  progress_goes None e r g = absurd (true≢false (sym g))
+  progress_goes (Some w) e r g = record { work = w; ready = r; running = e; flows = not-true _ g }
 
   pub would_go : would_move c f ≡ true → Goes c f
   unfolding would_move
@@ -62,7 +61,7 @@ module _ (c : Controller) (f : Flash) where
   pub goes_moves : (g : Goes c f) → step c f ≡ advance c f g.work
   goes_moves g = sym (step_advances c f g.work g.ready g.running g.flows)
 
-  pub goes_accepted : Goes c f → (step c f).result.answer ≡ Accepted
+  pub goes_accepted : Goes c f → (step c f).result.answer ≡ accepted
   goes_accepted g = rw (goes_moves g) (advance_accepts c f g.work)
 
 -- ---- what a step leaves alone
@@ -105,8 +104,8 @@ unfolding next_bank
 next_bank_lem c = of c.progress
   where
     of : (p : Progress) → progress_bank c.setup.pages p < 2
-    of Idle = omega arith
-    of (Running w) = either_bank (ltb (place_of c.setup.pages (operation_of w) (moved_of w)).0 _)
+    of None = omega arith
+    of (Some w) = either_bank (ltb (place_of c.setup.pages (operation_of w) (moved_of w)).0 _)
 
 -- A count that returns to 0 is 0.
 returned : (l : List ℕ) (i : ℕ) → get_or (set l i 0) i 0 ≡ 0
@@ -180,12 +179,12 @@ host_in_its_bank d a =
 
 -- The step alone, or the host alone, is served and leaves the counts.
 pub step_alone_served : (c : Controller) (f : Flash)
-    → ((round c f Nothing true).result.step ≡ step_served (step c f).result) × ((round c f Nothing true).result.controller.physical ≡ c.physical)
+    → ((round c f None true).result.step ≡ step_served (step c f).result) × ((round c f None true).result.controller.physical ≡ c.physical)
 unfolding round
 step_alone_served c f = (refl, (step_leaves_alone c f).1)
 
 pub host_alone_served : (c : Controller) (f : Flash) (a : ByteAddress)
-    → ((round c f (Word a) false).result.host ≡ host_served (host_read c f a)) × ((round c f (Word a) false).result.controller.physical ≡ c.physical)
+    → ((round c f (Some a) false).result.host ≡ host_served (host_read c f a)) × ((round c f (Some a) false).result.controller.physical ≡ c.physical)
 unfolding round host_read
 host_alone_served c f a = (refl, refl)
 
@@ -204,9 +203,9 @@ module _ (c : Controller) (f : Flash) (a : ByteAddress) (h : competes c f a ≡ 
 
 -- The host goes, the step goes instead, or both do.
 pub data BothAsked (c : Controller) (f : Flash) (a : ByteAddress) : Type 0 where
-  host : competes c f a ≡ true → lost_in c (next_bank c) < lost_limit → round c f (Word a) true ≡ host_goes c f a → BothAsked c f a
-  instead : competes c f a ≡ true → lost_limit ≤ lost_in c (next_bank c) → round c f (Word a) true ≡ step_goes c f → BothAsked c f a
-  both : competes c f a ≡ false → round c f (Word a) true ≡ both_go c f a → BothAsked c f a
+  host : competes c f a ≡ true → lost_in c (next_bank c) < lost_limit → round c f (Some a) true ≡ host_goes c f a → BothAsked c f a
+  instead : competes c f a ≡ true → lost_limit ≤ lost_in c (next_bank c) → round c f (Some a) true ≡ step_goes c f → BothAsked c f a
+  both : competes c f a ≡ false → round c f (Some a) true ≡ both_go c f a → BothAsked c f a
 
 pub both_asked : (c : Controller) (f : Flash) (a : ByteAddress) → BothAsked c f a
 unfolding round

@@ -1,4 +1,5 @@
 -- What start and step leave, and when. Assumes nothing.
+use Rattle.std.specs.Prelude.{None, Some, Err}
 use Prim.Native.Nat.{ℕ}
 use mathlib.Core.Path.{◌≡◌, refl, ap}
 use mathlib.Core.Bool.{true, false}
@@ -15,14 +16,14 @@ use Rattle.model.specs.Steps.{start_answer, work_of, started, start, stalls, adv
 use Rattle.model.specs.declared.Operation.{Operation}
 use Rattle.model.specs.declared.Work.{Work}
 use Rattle.model.specs.declared.Work.TheVariants.{Read, Program, Erase}
-use Rattle.model.specs.declared.Progress.{Progress}
-use Rattle.model.specs.declared.Progress.TheVariants.{Idle, Running}
+use Rattle.model.specs.State.{Progress}
 use Rattle.model.specs.declared.Setup.{Setup}
 use Rattle.model.specs.declared.Controller.{Controller}
-use Rattle.model.specs.declared.Movement.TheVariants.{None, Stalled}
-use Rattle.model.specs.declared.Answer.{Answer}
+use Rattle.model.specs.declared.Movement.TheVariants.{Stalled}
+use Rattle.model.specs.Refusals.{Answer}
 use Rattle.model.specs.declared.Stepped.{Stepped}
-use Rattle.model.specs.declared.Answer.TheVariants.{Accepted, Unexpected}
+use Rattle.model.specs.Refusals.{accepted}
+use Rattle.model.specs.declared.Refusal.TheVariants.{Unexpected}
 use Rattle.model.proofs.Bool.{by_test}
 use Rattle.model.proofs.Answers.{ready_accepts}
 use Rattle.model.proofs.Moving.{busy_ready, with_valid}
@@ -58,13 +59,13 @@ module _ (c : Controller) (f : Flash) where
   step_unready h = rw h
 
   -- A step of what is in progress is never refused,
-  pub advance_accepts : (w : Work) → (advance c f w).result.answer ≡ Accepted
+  pub advance_accepts : (w : Work) → (advance c f w).result.answer ≡ accepted
   unfolding advance
   advance_accepts (Read o k readable) = refl
   advance_accepts (Program o k) = refl
   advance_accepts (Erase o k) = refl
 
-  pub running_accepts : (w : Work) → (step_progress c f (Running w)).result.answer ≡ Accepted
+  pub running_accepts : (w : Work) → (step_progress c f (Some w)).result.answer ≡ accepted
   unfolding step_progress
   running_accepts w = by_test (stalls c.queues w) (λ e. rw e) (λ e. rw e (advance_accepts w))
 
@@ -72,8 +73,8 @@ module _ (c : Controller) (f : Flash) where
   progress_refused : (p : Progress) → (number_of (step_progress c f p).result.answer ≡ 0 → ⊥)
       → step_progress c f p ≡ still c (step_progress c f p).result.answer None f
   unfolding step_progress
-  progress_refused Idle h = refl
-  progress_refused (Running w) h = absurd (h (ap number_of (running_accepts w)))
+  progress_refused None h = refl
+  progress_refused (Some w) h = absurd (h (ap number_of (running_accepts w)))
 
   pub step_refused : (number_of (step c f).result.answer ≡ 0 → ⊥) → step c f ≡ still c (step c f).result.answer None f
   step_refused h =
@@ -82,11 +83,11 @@ module _ (c : Controller) (f : Flash) where
       (λ e. rw (step_unready e))
 
   -- What a valid state has in progress can be stepped.
-  pub busy_steps : (w : Work) → valid_with c f ≡ true → c.progress ≡ Running w → step c f ≡ step_progress c f (Running w)
+  pub busy_steps : (w : Work) → valid_with c f ≡ true → c.progress ≡ Some w → step c f ≡ step_progress c f (Some w)
   busy_steps w h e = step_ready (rw h (ready_accepts c.phase (busy_ready c w (with_valid c f h) e))) e
 
   -- Whatever holds where a step is refused, where it waits and where it moves a word, holds of every step.
-  pub by_step : (P : Leaves Stepped → Type 0) → ((a : Answer) → accepts a ≡ false → P (still c a None f)) → P (still c Accepted Stalled f)
+  pub by_step : (P : Leaves Stepped → Type 0) → ((a : Answer) → accepts a ≡ false → P (still c a None f)) → P (still c accepted (Some Stalled) f)
       → ((w : Work) → P (advance c f w)) → P (step c f)
   unfolding step_progress
   by_step P refuses waits moves =
@@ -95,23 +96,23 @@ module _ (c : Controller) (f : Flash) where
       (λ e. rw (step_unready e) (refuses (ready_answer (valid_with c f) c.phase) e))
     where
       in_progress : (p : Progress) → P (step_progress c f p)
-      in_progress Idle = refuses Unexpected refl
-      in_progress (Running w) = by_test (stalls c.queues w) (λ t. rw t waits) (λ t. rw t (moves w))
+      in_progress None = refuses (Err Unexpected) refl
+      in_progress (Some w) = by_test (stalls c.queues w) (λ t. rw t waits) (λ t. rw t (moves w))
 
 -- ---- the flash after a step
 
 -- A step leaves the flash as it was, programs a word, or erases one.
 pub data StepLeaves (c : Controller) (f : Flash) : Type 0 where
   same : (step c f).flash ≡ f → StepLeaves c f
-  programs : (o : Operation) (k : ℕ) → c.progress ≡ Running (Program o k)
+  programs : (o : Operation) (k : ℕ) → c.progress ≡ Some (Program o k)
       → (step c f).flash
       ≡ with_word f (place_of c.setup.pages o k) (programmed (stored f (place_of c.setup.pages o k)) (oldest c.queues.programs))
       → StepLeaves c f
-  erases : (o : Operation) (k : ℕ) → c.progress ≡ Running (Erase o k)
+  erases : (o : Operation) (k : ℕ) → c.progress ≡ Some (Erase o k)
       → (step c f).flash ≡ with_word f (place_of c.setup.pages o k) all_ones → StepLeaves c f
 
 -- By what is in progress,
-by_work : (c : Controller) (f : Flash) (w : Work) → c.progress ≡ Running w → (step c f).flash ≡ (advance c f w).flash → StepLeaves c f
+by_work : (c : Controller) (f : Flash) (w : Work) → c.progress ≡ Some w → (step c f).flash ≡ (advance c f w).flash → StepLeaves c f
 unfolding advance
 by_work c f (Read o k readable) e h = same h
 by_work c f (Program o k) e h = programs o k e h
@@ -119,8 +120,8 @@ by_work c f (Erase o k) e h = erases o k e h
 
 by_progress : (c : Controller) (f : Flash) (p : Progress) → c.progress ≡ p → step c f ≡ step_progress c f p → StepLeaves c f
 unfolding step_progress
-by_progress c f Idle e h = same (rw h)
-by_progress c f (Running w) e h =
+by_progress c f None e h = same (rw h)
+by_progress c f (Some w) e h =
     by_test (stalls c.queues w) (λ t. same (rw (h, t))) (λ t. by_work c f w e (rw (h, t)))
 
 pub step_leaves : (c : Controller) (f : Flash) → StepLeaves c f

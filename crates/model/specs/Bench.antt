@@ -1,5 +1,6 @@
 -- The starred cases of the bench sheet (01, 'Bench sheet') and those of denied operations (02, L2 and L3), each put to the
 -- definition of a call; and states, valid and not.
+use Rattle.std.specs.Prelude.{Some}
 use Rattle.std.specs.Prelude.{ℕ, zero, suc, Bool, true, false, ◌&&◌, List, [], ◌∷◌, eqb, get_or, replicate}
 use Rattle.model.specs.Geometry.{info_count, byte_address, first_word, data_image_page, special_page, creator_page}
 use Rattle.model.specs.Words.{all_ones}
@@ -14,7 +15,6 @@ use Rattle.model.specs.declared.Region.{Region}
 use Rattle.model.specs.declared.Operation.{Operation}
 use Rattle.model.specs.declared.Phase.TheVariants.{Disabled}
 use Rattle.model.specs.declared.Work.TheVariants.{Read, Program, Erase}
-use Rattle.model.specs.declared.Progress.TheVariants.{Running}
 use Rattle.model.specs.declared.Controller.{Controller}
 use Rattle.model.specs.declared.Stepped.{Stepped}
 
@@ -256,13 +256,13 @@ queued reads programs c =
 
 -- A page erase, a program of three words and a read of two in progress, with so many words moved, and of the read so many readable.
 abbrev pub erasing : ℕ → Controller → Controller
-erasing moved c = with_progress c (Running (Erase (op 2 0 0 0 0) moved))
+erasing moved c = with_progress c (Some (Erase (op 2 0 0 0 0) moved))
 
 abbrev pub programming : ℕ → Controller → Controller
-programming moved c = with_progress c (Running (Program (op 1 0 0 0 3) moved))
+programming moved c = with_progress c (Some (Program (op 1 0 0 0 3) moved))
 
 abbrev pub reading : ℕ → ℕ → Controller → Controller
-reading moved readable c = with_progress c (Running (Read (op 0 0 0 0 2) moved readable))
+reading moved readable c = with_progress c (Some (Read (op 0 0 0 0 2) moved readable))
 
 -- The address of the last error, and whether a malformed operation was recorded.
 abbrev pub last_error : Bool → ℕ → Controller → Controller

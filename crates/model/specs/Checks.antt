@@ -8,8 +8,8 @@ use Rattle.model.specs.Refusals.{check, or_else}
 use Rattle.model.specs.declared.ByteAddress.{ByteAddress}
 use Rattle.model.specs.declared.Operation.{Operation}
 use Rattle.model.specs.declared.Setup.{Setup}
-use Rattle.model.specs.declared.Answer.{Answer}
-use Rattle.model.specs.declared.Answer.TheVariants.{Malformed, OutOfRange, CrossesWindow, Denied}
+use Rattle.model.specs.Refusals.{Answer}
+use Rattle.model.specs.declared.Refusal.TheVariants.{Malformed, OutOfRange, CrossesWindow, Denied}
 
 -- 5: no such kind, partition over 1, type over 2 where used, address not a multiple of 4, or n outside 1 to 1,024 for
 -- read and program.

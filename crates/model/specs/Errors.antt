@@ -11,7 +11,7 @@ use Rattle.model.specs.declared.Operation.{Operation}
 use Rattle.model.specs.declared.Setup.{Setup}
 use Rattle.model.specs.declared.Controller.{Controller}
 use Rattle.model.specs.declared.Outcome.{Outcome}
-use Rattle.model.specs.declared.Answer.TheVariants.{Invalid}
+use Rattle.model.specs.declared.Refusal.TheVariants.{Invalid}
 
 -- Refusals 5, 7, 8 and 9 of an operation are recorded.
 abbrev pub is_recorded : ℕ → Bool

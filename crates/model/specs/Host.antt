@@ -15,8 +15,8 @@ use Rattle.model.specs.declared.ByteAddress.{ByteAddress}
 use Rattle.model.specs.declared.Setup.{Setup}
 use Rattle.model.specs.declared.Controller.{Controller}
 use Rattle.model.specs.declared.Fetched.{Fetched}
-use Rattle.model.specs.declared.Answer.{Answer}
-use Rattle.model.specs.declared.Answer.TheVariants.{Malformed, OutOfRange, Denied}
+use Rattle.model.specs.Refusals.{Answer}
+use Rattle.model.specs.declared.Refusal.TheVariants.{Malformed, OutOfRange, Denied}
 
 -- A host read or page view needs the read right on its data page. Denied, it names who decided.
 abbrev pub unreadable : Setup → Page → Bool

@@ -1,5 +1,5 @@
 -- Reset, initialise with the seeds, and RMA. (01, 'Phases')
-use Rattle.std.specs.Prelude.{ℕ, suc, Bool, true, false, ◌&&◌, ◌||◌, not, cond, List, [], ◌∷◌, eqb, take, drop, replicate}
+use Rattle.std.specs.Prelude.{Option, None, Some, ℕ, suc, Bool, true, false, ◌&&◌, ◌||◌, not, cond, List, [], ◌∷◌, eqb, take, drop}
 use Rattle.model.specs.Geometry.{pages_fit, first_word, image_page_of, is_data, special_page, creator_page, owner_page, isolated_page}
 use Rattle.model.specs.Words.{all_ones}
 use Rattle.model.specs.State.{Flash, flash, Leaves, with_phase, with_queues, empty_queues, reset_controller, is_ready, is_busy}
@@ -13,8 +13,8 @@ use Rattle.model.specs.declared.Controller.{Controller}
 use Rattle.model.specs.declared.Outcome.{Outcome}
 use Rattle.model.specs.declared.Seeds.{Seeds}
 use Rattle.model.specs.declared.Initialised.{Initialised}
-use Rattle.model.specs.declared.Answer.{Answer}
-use Rattle.model.specs.declared.Answer.TheVariants.{Invalid, Disabled, Busy, Unexpected}
+use Rattle.model.specs.Refusals.{Answer}
+use Rattle.model.specs.declared.Refusal.TheVariants.{Invalid, Disabled, Busy, Unexpected}
 
 -- Reset takes any state and checks only its D, for 1; refused, it hands that state back. It doesn't touch an image.
 unfoldable pub reset : Controller → ℕ → Outcome
@@ -36,11 +36,11 @@ abbrev pub seed_at : ℕ → ℕ → Flash → List ℕ
 seed_at d page f = take seed_words (drop (first_word (special_page d page)).0 f.words)
 
 -- With provision enabled the creator and owner seeds are handed out; otherwise none.
-abbrev pub no_seeds : Seeds
-no_seeds = record { given = false; creator = replicate seed_words 0; owner = replicate seed_words 0 }
+abbrev pub no_seeds : Option Seeds
+no_seeds = None
 
 abbrev pub seeds_of : ℕ → Flash → Seeds
-seeds_of d f = record { given = true; creator = seed_at d creator_page f; owner = seed_at d owner_page f }
+seeds_of d f = record { creator = seed_at d creator_page f; owner = seed_at d owner_page f }
 
 -- Checks 1, 2 and 12 (when ready).
 unfoldable pub initialise_answer : Controller → Flash → Answer
@@ -54,7 +54,7 @@ unfoldable pub initialise : Controller → Flash → Initialised
 initialise c f = record {
   controller = cond (accepts (initialise_answer c f)) (with_phase c phase.Ready) c;
   answer = initialise_answer c f;
-  seeds = cond (accepts (initialise_answer c f) && c.setup.inputs.provision) (seeds_of c.setup.pages f) no_seeds;
+  seeds = cond (accepts (initialise_answer c f) && c.setup.inputs.provision) (Some (seeds_of c.setup.pages f)) no_seeds;
 }
 
 -- ---- RMA

@@ -17,7 +17,7 @@ use Rattle.model.specs.declared.Region.{Region}
 use Rattle.model.specs.declared.PageSetting.{PageSetting}
 use Rattle.model.specs.declared.Operation.{Operation}
 use Rattle.model.specs.declared.Controller.{Controller}
-use Rattle.model.specs.declared.Answer.{Answer}
+use Rattle.model.specs.Refusals.{Answer}
 
 -- The calls that are lent the flash and need a ready controller: step, whole operation, host read and view.
 pub record FlashCallsRefuse (c : Controller) (f : Flash) (a : Answer) : Type 0 where

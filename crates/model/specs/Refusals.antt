@@ -1,32 +1,43 @@
 -- The refusals by number and what they report, and chains of checks. (01, 'When the desk says no'; 02, L2)
-use Rattle.std.specs.Prelude.{ℕ, Bool, ◌&&◌, not, cond, eqb}
+use Rattle.std.specs.Prelude.{ℕ, Bool, ◌&&◌, not, cond, eqb, Result, Ok, Err, is_ok}
 use Rattle.model.specs.Kinds.{is_read}
 use Rattle.model.specs.declared.Operation.{Operation}
-use Rattle.model.specs.declared.Answer.{Answer}
-use Rattle.model.specs.declared.Answer.TheVariants.{Accepted, Invalid, Disabled, Uninitialised, Busy, Malformed, ShortBuffer, OutOfRange, CrossesWindow, Denied, QueueEmpty, QueueFull, Unexpected, BadSetting}
+use Rattle.model.specs.declared.Refusal.TheVariants.{Invalid, Disabled, Uninitialised, Busy, Malformed, ShortBuffer, OutOfRange, CrossesWindow, Denied, QueueEmpty, QueueFull, Unexpected, BadSetting}
 use Rattle.model.specs.declared.Decider.{Decider}
 use Rattle.model.specs.declared.Decider.TheVariants as decider
+use Rattle.model.specs.declared.Refusal.{Refusal}
 use Rattle.model.specs.declared.Controller.{Controller}
 use Rattle.model.specs.declared.Outcome.{Outcome}
 use Rattle.model.specs.declared.Phase.{Phase}
 use Rattle.model.specs.declared.Phase.TheVariants as phase
 
--- The number of an answer: 0 if nothing was refused, else the refusal's number in 01.
+-- A call's answer: accepted, or the refusal.
+abbrev pub Answer : Type 0
+Answer = Result Unit Refusal
+
+abbrev pub accepted : Answer
+accepted = Ok tt
+
+-- A refusal's number in 01.
+abbrev pub refusal_number : Refusal → ℕ
+refusal_number Invalid = 1
+refusal_number Disabled = 2
+refusal_number Uninitialised = 3
+refusal_number Busy = 4
+refusal_number Malformed = 5
+refusal_number ShortBuffer = 6
+refusal_number OutOfRange = 7
+refusal_number CrossesWindow = 8
+refusal_number (Denied by) = 9
+refusal_number QueueEmpty = 10
+refusal_number QueueFull = 11
+refusal_number Unexpected = 12
+refusal_number BadSetting = 13
+
+-- The number of an answer: 0 if nothing was refused, else the refusal's.
 abbrev pub number_of : Answer → ℕ
-number_of Accepted = 0
-number_of Invalid = 1
-number_of Disabled = 2
-number_of Uninitialised = 3
-number_of Busy = 4
-number_of Malformed = 5
-number_of ShortBuffer = 6
-number_of OutOfRange = 7
-number_of CrossesWindow = 8
-number_of (Denied by) = 9
-number_of QueueEmpty = 10
-number_of QueueFull = 11
-number_of Unexpected = 12
-number_of BadSetting = 13
+number_of (Ok done) = 0
+number_of (Err r) = refusal_number r
 
 -- The number of a decider: 0 to 7 a region's own, 8 the default (02, L14); the others are house.
 abbrev pub decider_number : Decider → ℕ
@@ -40,24 +51,16 @@ decider_number decider.BankPermission = 11
 abbrev pub no_decider : ℕ
 no_decider = 255
 
+abbrev pub decider_told : Refusal → ℕ
+decider_told (Denied by) = decider_number by
+decider_told r = no_decider
+
 abbrev pub reported : Answer → ℕ
-reported Accepted = no_decider
-reported Invalid = no_decider
-reported Disabled = no_decider
-reported Uninitialised = no_decider
-reported Busy = no_decider
-reported Malformed = no_decider
-reported ShortBuffer = no_decider
-reported OutOfRange = no_decider
-reported CrossesWindow = no_decider
-reported (Denied by) = decider_number by
-reported QueueEmpty = no_decider
-reported QueueFull = no_decider
-reported Unexpected = no_decider
-reported BadSetting = no_decider
+reported (Ok done) = no_decider
+reported (Err r) = decider_told r
 
 abbrev pub accepts : Answer → Bool
-accepts a = eqb (number_of a) 0
+accepts a = is_ok a
 
 abbrev pub is_denied : Answer → Bool
 is_denied a = eqb (number_of a) 9
@@ -67,8 +70,8 @@ abbrev pub is_denied_read : Operation → ℕ → Bool
 is_denied_read o n = is_read o && eqb n 9
 
 -- A check: the refusal if its test holds.
-abbrev pub check : Bool → Answer → Answer
-check test a = cond test a Accepted
+abbrev pub check : Bool → Refusal → Answer
+check test r = cond test (Err r) accepted
 
 -- The first check that applies answers.
 abbrev pub or_else : Answer → Answer → Answer
@@ -76,9 +79,9 @@ or_else a b = cond (accepts a) b a
 
 -- Refusal 2 if disabled (01: shut), 3 if uninitialised (01: still fresh).
 abbrev pub phase_answer : Phase → Answer
-phase_answer phase.Uninitialised = Uninitialised
-phase_answer phase.Ready = Accepted
-phase_answer phase.Disabled = Disabled
+phase_answer phase.Uninitialised = Err Uninitialised
+phase_answer phase.Ready = accepted
+phase_answer phase.Disabled = Err Disabled
 
 -- Checks 1, 2 and 3, with which start, push, step, host read, view and whole operations begin.
 abbrev pub ready_answer : Bool → Phase → Answer

@@ -1,4 +1,5 @@
 -- Rounds: in a round a bank may have a host read, a controller step whose next word lies in it, or both waiting. (02, L1; 001)
+use Rattle.std.specs.Prelude.{Option, None, Some}
 use Rattle.std.specs.Prelude.{ℕ, ◌+◌, Bool, true, false, ◌&&◌, not, cond, ltb, eqb, get_or, set}
 use Rattle.model.specs.Geometry.{page_of, bank_of, bank_of_word}
 use Rattle.model.specs.Places.{place_of}
@@ -9,16 +10,13 @@ use Rattle.model.specs.Steps.{stalls, step}
 use Rattle.model.specs.Host.{host_read}
 use Rattle.model.specs.declared.ByteAddress.{ByteAddress}
 use Rattle.model.specs.declared.Queues.{Queues}
-use Rattle.model.specs.declared.Progress.{Progress}
-use Rattle.model.specs.declared.Progress.TheVariants.{Idle, Running}
+use Rattle.model.specs.State.{Progress}
 use Rattle.model.specs.declared.Controller.{Controller}
-use Rattle.model.specs.declared.Answer.TheVariants.{Accepted}
+use Rattle.model.specs.Refusals.{accepted}
 use Rattle.model.specs.declared.Movement.{Movement}
-use Rattle.model.specs.declared.Movement.TheVariants.{None, Stalled}
+use Rattle.model.specs.declared.Movement.TheVariants.{Stalled}
 use Rattle.model.specs.declared.Fetched.{Fetched}
 use Rattle.model.specs.declared.Stepped.{Stepped}
-use Rattle.model.specs.declared.HostRequest.{HostRequest}
-use Rattle.model.specs.declared.HostRequest.TheVariants.{Nothing, Word}
 use Rattle.model.specs.declared.Turn.{Turn}
 use Rattle.model.specs.declared.Turn.TheVariants.{Unasked, Waiting, Served}
 use Rattle.model.specs.declared.HostTurn.{HostTurn}
@@ -29,16 +27,16 @@ use Rattle.model.specs.declared.Rounded.{Rounded}
 
 -- A step competes if it would move a word: one that would wait or be refused is answered at once and doesn't.
 abbrev pub goes : Queues → Progress → Bool
-goes q Idle = false
-goes q (Running w) = not (stalls q w)
+goes q None = false
+goes q (Some w) = not (stalls q w)
 
 unfoldable pub would_move : Controller → Flash → Bool
 would_move c f = accepts (ready_answer (valid_with c f) c.phase) && goes c.queues c.progress
 
 -- The bank in which the next word lies; with nothing in progress there is no such word, and no rule asks.
 abbrev pub progress_bank : ℕ → Progress → ℕ
-progress_bank d Idle = 0
-progress_bank d (Running w) = bank_of_word d (place_of d (operation_of w) (moved_of w))
+progress_bank d None = 0
+progress_bank d (Some w) = bank_of_word d (place_of d (operation_of w) (moved_of w))
 
 unfoldable pub next_bank : Controller → ℕ
 next_bank c = progress_bank c.setup.pages c.progress
@@ -63,10 +61,10 @@ with_lost c bank n = with_physical c (record { lost = set c.physical.lost bank n
 
 -- Of a side that asked nothing, or waits: whoever isn't served is answered waiting, a step as one that stalls.
 abbrev pub host_unserved : Turn → HostTurn
-host_unserved t = record { turn = t; answer = Accepted; word = 0 }
+host_unserved t = record { turn = t; answer = accepted; word = 0 }
 
-abbrev pub step_unserved : Turn → Movement → StepTurn
-step_unserved t m = record { turn = t; answer = Accepted; movement = m; bits = 0 }
+abbrev pub step_unserved : Turn → Option Movement → StepTurn
+step_unserved t m = record { turn = t; answer = accepted; movement = m; bits = 0 }
 
 -- Whoever is served is answered as by its own call: a refused host read uses its turn.
 abbrev pub host_served : Fetched → HostTurn
@@ -111,7 +109,7 @@ host_goes c f a = record {
   result = record {
     controller = with_lost (host_read c f a).controller (next_bank c) (lost_in c (next_bank c) + 1);
     host = host_served (host_read c f a);
-    step = step_unserved Waiting Stalled;
+    step = step_unserved Waiting (Some Stalled);
   };
   flash = f;
 }
@@ -141,9 +139,12 @@ both_go c f a = record {
   flash = (step (host_read c f a).controller f).flash;
 }
 
--- A round: what the host asks, and whether the step is asked.
+-- A round: what the host asks, and whether the step is asked. The host asks for the word at an address, or nothing.
+abbrev pub HostRequest : Type 0
+HostRequest = Option ByteAddress
+
 unfoldable pub round : Controller → Flash → HostRequest → Bool → Leaves Rounded
-round c f Nothing false = nobody c f
-round c f Nothing true = step_alone c f
-round c f (Word a) false = host_alone c f a
-round c f (Word a) true = cond (competes c f a) (contest c f a) (both_go c f a)
+round c f None false = nobody c f
+round c f None true = step_alone c f
+round c f (Some a) false = host_alone c f a
+round c f (Some a) true = cond (competes c f a) (contest c f a) (both_go c f a)

@@ -10,8 +10,8 @@ use Rattle.model.specs.declared.PageSetting.{PageSetting}
 use Rattle.model.specs.declared.Settings.{Settings}
 use Rattle.model.specs.declared.Controller.{Controller}
 use Rattle.model.specs.declared.Outcome.{Outcome}
-use Rattle.model.specs.declared.Answer.{Answer}
-use Rattle.model.specs.declared.Answer.TheVariants.{Invalid, Busy, BadSetting}
+use Rattle.model.specs.Refusals.{Answer}
+use Rattle.model.specs.declared.Refusal.TheVariants.{Invalid, Busy, BadSetting}
 
 -- Checks 1, 4 and 13, in this order; `fits` says that 13 does not apply.
 abbrev pub setting_answer : Controller → Bool → Answer

@@ -1,5 +1,5 @@
 -- The controller's state and the flash that it is lent; the parts of the state that calls change. (01, 'Phases')
-use Rattle.std.specs.Prelude.{ℕ, Bool, true, false, List, eqb, length, get_or, set, take, drop, replicate}
+use Rattle.std.specs.Prelude.{Option, None, Some, ℕ, Bool, true, false, List, eqb, length, get_or, set, take, drop, replicate}
 use Rattle.model.specs.Geometry.{page_words, image_words, first_word}
 use Rattle.model.specs.Queue.{empty_queue}
 use Rattle.model.specs.declared.ImagePage.{ImagePage}
@@ -16,8 +16,6 @@ use Rattle.model.specs.declared.Queues.{Queues}
 use Rattle.model.specs.declared.Operation.{Operation}
 use Rattle.model.specs.declared.Work.{Work}
 use Rattle.model.specs.declared.Work.TheVariants.{Read, Program, Erase}
-use Rattle.model.specs.declared.Progress.{Progress}
-use Rattle.model.specs.declared.Progress.TheVariants.{Idle, Running}
 use Rattle.model.specs.declared.Setup.{Setup}
 use Rattle.model.specs.declared.Physical.{Physical}
 use Rattle.model.specs.declared.Controller.{Controller}
@@ -103,6 +101,10 @@ with_queues c q = record {
   physical = c.physical;
 }
 
+-- What is in progress, if anything.
+abbrev pub Progress : Type 0
+Progress = Option Work
+
 abbrev pub with_progress : Controller → Progress → Controller
 with_progress c p = record {
   setup = c.setup;
@@ -164,7 +166,7 @@ reset_controller d = record {
   phase = Uninitialised;
   errors = no_errors;
   queues = empty_queues;
-  progress = Idle;
+  progress = None;
   physical = reset_physical;
 }
 
@@ -176,8 +178,8 @@ is_ready Ready = true
 is_ready Disabled = false
 
 abbrev pub is_busy : Progress → Bool
-is_busy Idle = false
-is_busy (Running w) = true
+is_busy None = false
+is_busy (Some w) = true
 
 -- Of what is in progress: the operation, and how many of its words have moved.
 abbrev pub operation_of : Work → Operation

@@ -1,5 +1,5 @@
 -- Start, push, pop and step. (01, 'Steps' and 'When the desk says no'; 02, L3)
-use Rattle.std.specs.Prelude.{ℕ, ◌+◌, Bool, false, ◌||◌, not, cond, ltb, leb, eqb}
+use Rattle.std.specs.Prelude.{Option, None, Some, Err, ℕ, ◌+◌, Bool, false, ◌||◌, not, cond, ltb, leb, eqb}
 use Rattle.model.specs.Words.{all_ones, programmed, changed_bits}
 use Rattle.model.specs.Kinds.{is_read, is_program}
 use Rattle.model.specs.Places.{total_words, place_of}
@@ -15,17 +15,17 @@ use Rattle.model.specs.declared.Operation.{Operation}
 use Rattle.model.specs.declared.Queues.{Queues}
 use Rattle.model.specs.declared.Work.{Work}
 use Rattle.model.specs.declared.Work.TheVariants.{Read, Program, Erase}
-use Rattle.model.specs.declared.Progress.{Progress}
-use Rattle.model.specs.declared.Progress.TheVariants.{Idle, Running}
+use Rattle.model.specs.State.{Progress}
 use Rattle.model.specs.declared.Setup.{Setup}
 use Rattle.model.specs.declared.Controller.{Controller}
 use Rattle.model.specs.declared.Outcome.{Outcome}
 use Rattle.model.specs.declared.Fetched.{Fetched}
 use Rattle.model.specs.declared.Stepped.{Stepped}
 use Rattle.model.specs.declared.Movement.{Movement}
-use Rattle.model.specs.declared.Movement.TheVariants.{None, Moved, Finished, Stalled}
-use Rattle.model.specs.declared.Answer.{Answer}
-use Rattle.model.specs.declared.Answer.TheVariants.{Accepted, Invalid, Busy, QueueEmpty, QueueFull, Unexpected}
+use Rattle.model.specs.declared.Movement.TheVariants.{Moved, Finished, Stalled}
+use Rattle.model.specs.Refusals.{Answer}
+use Rattle.model.specs.Refusals.{accepted}
+use Rattle.model.specs.declared.Refusal.TheVariants.{Invalid, Busy, QueueEmpty, QueueFull, Unexpected}
 
 -- ---- start: checks 1 to 4, then 5, 7, 8 and 9, which are recorded
 
@@ -41,7 +41,7 @@ abbrev pub starts : Operation → Answer → Bool
 starts o a = accepts a || is_denied_read o (number_of a)
 
 abbrev pub progress_after : Controller → Operation → Answer → Progress
-progress_after c o a = cond (starts o a) (Running (work_of c.setup o)) c.progress
+progress_after c o a = cond (starts o a) (Some (work_of c.setup o)) c.progress
 
 -- What checks 5, 7, 8 and 9 leave.
 abbrev pub started : Controller → Operation → Answer → Outcome
@@ -58,12 +58,12 @@ start c o =
 
 -- What has been pushed is what has moved and what is queued.
 unfoldable pub push_answer : Controller → Progress → Answer
-push_answer c Idle = Unexpected
-push_answer c (Running (Read o moved readable)) = Unexpected
-push_answer c (Running (Program o moved)) =
+push_answer c None = Err Unexpected
+push_answer c (Some (Read o moved readable)) = Err Unexpected
+push_answer c (Some (Program o moved)) =
     or_else (check (leb o.count (moved + c.queues.programs.len)) Unexpected)
     (check (is_full c.queues.programs) QueueFull)
-push_answer c (Running (Erase o moved)) = Unexpected
+push_answer c (Some (Erase o moved)) = Err Unexpected
 
 unfoldable pub push : Controller → ℕ → Outcome
 push c w =
@@ -104,7 +104,7 @@ counted_bits s p old new = changed_bits old new
 
 -- The step that moves word k of n is the last one when k + 1 is n.
 abbrev pub progressed : ℕ → ℕ → Work → Progress
-progressed n k next = cond (eqb (k + 1) n) Idle (Running next)
+progressed n k next = cond (eqb (k + 1) n) None (Some next)
 
 abbrev pub movement : ℕ → ℕ → Movement
 movement n k = cond (eqb (k + 1) n) Finished Moved
@@ -113,8 +113,8 @@ movement n k = cond (eqb (k + 1) n) Finished Moved
 abbrev pub moved : Controller → ℕ → ℕ → Queues → Work → ℕ → Stepped
 moved c n k q next bits = record {
   controller = with_progress (with_queues c q) (progressed n k next);
-  answer = Accepted;
-  movement = movement n k;
+  answer = accepted;
+  movement = Some (movement n k);
   bits = bits;
 }
 
@@ -147,12 +147,12 @@ advance c f (Erase o k) =
     (Erase o (k + 1)) (place_of c.setup.pages o k) all_ones f
 
 -- Nothing moves, and nothing changes.
-abbrev pub still : Controller → Answer → Movement → Flash → Leaves Stepped
+abbrev pub still : Controller → Answer → Option Movement → Flash → Leaves Stepped
 still c a m f = record { result = record { controller = c; answer = a; movement = m; bits = 0 }; flash = f }
 
 unfoldable pub step_progress : Controller → Flash → Progress → Leaves Stepped
-step_progress c f Idle = still c Unexpected None f
-step_progress c f (Running w) = cond (stalls c.queues w) (still c Accepted Stalled f) (advance c f w)
+step_progress c f None = still c (Err Unexpected) None f
+step_progress c f (Some w) = cond (stalls c.queues w) (still c accepted (Some Stalled) f) (advance c f w)
 
 unfoldable pub step : Controller → Flash → Leaves Stepped
 step c f =

@@ -1,4 +1,5 @@
 -- When a state is valid (01: 'a state is ours'), and check 1. (01, 'When the desk says no'; 02, L1 and L3)
+use Rattle.std.specs.Prelude.{None, Some}
 use Rattle.std.specs.Prelude.{ℕ, ◌+◌, Bool, true, ◌&&◌, ◌||◌, not, List, [], ◌∷◌, ltb, leb, eqb}
 use Rattle.model.specs.Geometry.{pages_fit, data_pages}
 use Rattle.model.specs.Kinds.{is_read, is_program, is_page_erase, is_bank_erase}
@@ -16,8 +17,7 @@ use Rattle.model.specs.declared.Queue.{Queue}
 use Rattle.model.specs.declared.Queues.{Queues}
 use Rattle.model.specs.declared.Work.{Work}
 use Rattle.model.specs.declared.Work.TheVariants.{Read, Program, Erase}
-use Rattle.model.specs.declared.Progress.{Progress}
-use Rattle.model.specs.declared.Progress.TheVariants.{Idle, Running}
+use Rattle.model.specs.State.{Progress}
 use Rattle.model.specs.declared.Setup.{Setup}
 use Rattle.model.specs.declared.Physical.{Physical}
 use Rattle.model.specs.declared.Controller.{Controller}
@@ -88,8 +88,8 @@ work_fits s programs (Erase o moved) =
     && is_empty programs))
 
 unfoldable pub running_fits : Setup → Queue → Progress → Bool
-running_fits s programs Idle = is_empty programs
-running_fits s programs (Running w) = work_fits s programs w
+running_fits s programs None = is_empty programs
+running_fits s programs (Some w) = work_fits s programs w
 
 -- ---- a lost count is at most 5: over 5 isn't ours (02, L1)
 

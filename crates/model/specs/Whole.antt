@@ -1,5 +1,5 @@
 -- A whole operation: start, then steps with pushes and pops until it is finished and drained. (01, 'Steps')
-use Rattle.std.specs.Prelude.{ℕ, zero, suc, ◌+◌, Bool, ◌&&◌, ◌||◌, not, cond, List, ltb, length, get_or, set}
+use Rattle.std.specs.Prelude.{ℕ, zero, suc, ◌+◌, Bool, ◌&&◌, ◌||◌, not, cond, List, ltb, length, get_or, set, Err}
 use Rattle.model.specs.Kinds.{is_read, is_program, uses_count}
 use Rattle.model.specs.Places.{total_words}
 use Rattle.model.specs.State.{Flash, Leaves, is_busy}
@@ -12,8 +12,8 @@ use Rattle.model.specs.declared.Controller.{Controller}
 use Rattle.model.specs.declared.Outcome.{Outcome}
 use Rattle.model.specs.declared.Stepped.{Stepped}
 use Rattle.model.specs.declared.Completed.{Completed}
-use Rattle.model.specs.declared.Answer.{Answer}
-use Rattle.model.specs.declared.Answer.TheVariants.{Busy, ShortBuffer}
+use Rattle.model.specs.Refusals.{Answer}
+use Rattle.model.specs.declared.Refusal.TheVariants.{Busy, ShortBuffer}
 
 -- What the calls of a whole operation work on: the controller, the flash, the lent buffer, and the sum of the bit counts.
 pub record Run : Type 0 where
@@ -93,5 +93,5 @@ drive d o s f b =
 unfoldable pub whole : Controller → Flash → Operation → List ℕ → WholeLeaves
 whole c f o b =
     cond (accepts (whole_answer c f))
-    (cond (short_buffer o b) (leaving c ShortBuffer 0 f b) (drive c.setup.pages o (start c o) f b))
+    (cond (short_buffer o b) (leaving c (Err ShortBuffer) 0 f b) (drive c.setup.pages o (start c o) f b))
     (leaving c (whole_answer c f) 0 f b)

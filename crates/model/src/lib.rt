@@ -160,12 +160,8 @@ pub enum Work {
     },
 }
 
-// What is in progress.
-#[derive(Clone, Copy)]
-pub enum Progress {
-    Idle,
-    Running(Work),
-}
+// What is in progress, if anything.
+pub type Progress = Option<Work>;
 
 // What checks 5, 7, 8 and 9 of an operation look at: `pages` is D, the number of data pages in each bank. Only reset, the
 // inputs and the settings change it.
@@ -215,11 +211,10 @@ pub struct Ruling {
 
 // ---- what calls hand back
 
-// A call's answer: accepted, or the refusal. Where access is denied, it says who decided.
-// specs/Refusals.antt gives each its number in 01, and what it reports.
+// Why a call is refused. Where access is denied, it says who decided. specs/Refusals.antt gives each its number in 01, and what
+// it reports.
 #[derive(Clone, Copy)]
-pub enum Answer {
-    Accepted,
+pub enum Refusal {
     Invalid,
     Disabled,
     Uninitialised,
@@ -235,10 +230,12 @@ pub enum Answer {
     BadSetting,
 }
 
-// What a step did: nothing since it was refused, a word moved, the last word moved, or nothing yet (01: waiting).
+// A call's answer: accepted, or the refusal.
+pub type Answer = Result<(), Refusal>;
+
+// What a step that is not refused did: a word moved, the last word moved, or nothing yet (01: waiting).
 #[derive(Clone, Copy)]
 pub enum Movement {
-    None,
     Moved,
     Finished,
     Stalled,
@@ -264,16 +261,12 @@ pub struct Fetched {
 pub struct Stepped {
     pub controller: Controller,
     pub answer: Answer,
-    pub movement: Movement,
+    pub movement: Option<Movement>,
     pub bits: u32,
 }
 
-// What the host asks in a round.
-#[derive(Clone, Copy)]
-pub enum HostRequest {
-    Nothing,
-    Word(ByteAddress),
-}
+// What the host asks in a round: the word at an address, or nothing.
+pub type HostRequest = Option<ByteAddress>;
 
 // Of each side of a round: it asked nothing, it waits for its turn, or it was answered by its own call.
 #[derive(Clone, Copy)]
@@ -294,7 +287,7 @@ pub struct HostTurn {
 pub struct StepTurn {
     pub turn: Turn,
     pub answer: Answer,
-    pub movement: Movement,
+    pub movement: Option<Movement>,
     pub bits: u32,
 }
 
@@ -306,10 +299,9 @@ pub struct Rounded {
     pub step: StepTurn,
 }
 
-// The creator and the owner seed, or zeros where none are handed out.
+// The creator and the owner seed.
 #[derive(Clone, Copy)]
 pub struct Seeds {
-    pub given: bool,
     pub creator: [u32; 8],
     pub owner: [u32; 8],
 }
@@ -319,7 +311,7 @@ pub struct Seeds {
 pub struct Initialised {
     pub controller: Controller,
     pub answer: Answer,
-    pub seeds: Seeds,
+    pub seeds: Option<Seeds>,
 }
 
 // Of a whole operation: the bits are the sum over its steps.

@@ -1,4 +1,5 @@
 -- What a start leaves, by the tests that it makes. Assumes nothing.
+use Rattle.std.specs.Prelude.{None, Some}
 use Prim.Native.Nat.{ℕ, ◌≤◌}
 use mathlib.Core.Path.{◌≡◌, refl, ap, sym, subst, ◌∙◌}
 use mathlib.Core.Bool.{Bool, true, false, cond}
@@ -12,11 +13,10 @@ use Rattle.model.specs.Rights.{readable_words}
 use Rattle.model.specs.Errors.{is_recorded, recorded, error_address}
 use Rattle.model.specs.Checks.{operation_answer}
 use Rattle.model.specs.Steps.{start_answer, starts, progress_after, started}
-use Rattle.model.specs.declared.Answer.{Answer}
-use Rattle.model.specs.declared.Answer.TheVariants.{Busy}
+use Rattle.model.specs.Refusals.{Answer}
+use Rattle.model.specs.declared.Refusal.TheVariants.{Busy}
 use Rattle.model.specs.declared.Operation.{Operation}
 use Rattle.model.specs.declared.Work.{Work}
-use Rattle.model.specs.declared.Progress.TheVariants.{Idle, Running}
 use Rattle.model.specs.declared.Setup.{Setup}
 use Rattle.model.specs.declared.Controller.{Controller}
 use Rattle.model.proofs.Bool.{by_test}
@@ -45,7 +45,7 @@ start_asked s =
 
 -- ---- what starts is in progress
 
-busy : (b : Bool) (w : Work) → is_busy (cond b (Running w) Idle) ≡ b
+busy : (b : Bool) (w : Work) → is_busy (cond b (Some w) None) ≡ b
 busy true w = refl
 busy false w = refl
 
@@ -102,7 +102,7 @@ module _ (s : List ℕ) (o : Operation) (first : Answer) (asked : first ≡ star
 
     idle : is_busy (decode s).progress ≡ false
     unfolding start_answer
-    idle = check_passed _ Busy refl (both_accept (ready_answer (valid (decode s)) (decode s).phase) _ passed).1
+    idle = check_passed _ Busy (both_accept (ready_answer (valid (decode s)) (decode s).phase) _ passed).1
 
     module _ (a : Answer) (answered : a ≡ operation_answer (stands_for s).setup o) where
       pub start_begins : Begins s o a

@@ -2,7 +2,7 @@
 use Rattle.std.specs.Prelude.{ℕ, ◌≡◌, true, false, List}
 use Rattle.model.specs.State.{is_busy}
 use Rattle.model.specs.declared.Operation.{Operation}
-use Rattle.model.specs.declared.Answer.{Answer}
+use Rattle.model.specs.Refusals.{Answer}
 use Rattle.registers.specs.Registers.{encoded, stands_for}
 use Rattle.answers.specs.Answered.{Answered}
 

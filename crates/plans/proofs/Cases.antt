@@ -12,8 +12,8 @@ use Rattle.model.specs.Steps.{starts}
 use Rattle.model.specs.Whole.{whole_answer, short_buffer}
 use Rattle.model.specs.declared.Operation.{Operation}
 use Rattle.model.specs.declared.Controller.{Controller}
-use Rattle.model.specs.declared.Answer.{Answer}
-use Rattle.model.specs.declared.Answer.TheVariants.{ShortBuffer}
+use Rattle.model.specs.Refusals.{Answer}
+use Rattle.model.specs.declared.Refusal.TheVariants.{ShortBuffer}
 use Rattle.model.proofs.Bool.{by_test}
 use Rattle.model.proofs.Answers.{unrecorded}
 use Rattle.plans.specs.Plan.{Refused, Recorded, plan_started, plan_of}

@@ -17,8 +17,8 @@ use Rattle.model.specs.declared.Errors.{Errors}
 use Rattle.model.specs.declared.Queues.{Queues}
 use Rattle.model.specs.declared.Work.{Work}
 use Rattle.model.specs.declared.Controller.{Controller}
-use Rattle.model.specs.declared.Answer.{Answer}
-use Rattle.model.specs.declared.Answer.TheVariants.{Unexpected}
+use Rattle.model.specs.Refusals.{Answer}
+use Rattle.model.specs.declared.Refusal.TheVariants.{Unexpected}
 use Rattle.model.proofs.Bool.{which}
 use Rattle.model.proofs.WorkParts.{at_word}
 use Rattle.plans.specs.Driver.{Drive, Step, Push, Pop, Driven, stepping, pushing, popping, drives}

@@ -7,7 +7,7 @@ use Rattle.model.specs.Places.{total_words}
 use Rattle.model.specs.Refusals.{accepts}
 use Rattle.model.specs.Steps.{starts, start}
 use Rattle.model.specs.Whole.{leaving, completed, turns, whole_answer, short_buffer, drive, whole}
-use Rattle.model.specs.declared.Answer.TheVariants.{ShortBuffer}
+use Rattle.model.specs.declared.Refusal.TheVariants.{ShortBuffer}
 use Rattle.plans.specs.Limited.{driven_from, driven, DrivenToItsEnd}
 
 pub driven_to_its_end : DrivenToItsEnd

@@ -1,4 +1,5 @@
 -- The queues of a read, of a program and of an erase, and the step that moves a word of each. Assumes nothing.
+use Rattle.std.specs.Prelude.{Option}
 use Prim.Native.Nat.{ℕ, ◌+◌, ◌<◌, ◌≤◌}
 use native.Mathlib.Omega.{arith}
 use mathlib.Core.Path.{◌≡◌, refl, sym, ◌∙◌}
@@ -21,7 +22,7 @@ use Rattle.model.specs.declared.Work.TheVariants.{Read, Program, Erase}
 use Rattle.model.specs.declared.Controller.{Controller}
 use Rattle.model.specs.declared.Stepped.{Stepped}
 use Rattle.model.specs.declared.Movement.{Movement}
-use Rattle.model.specs.declared.Answer.TheVariants.{Accepted}
+use Rattle.model.specs.Refusals.{accepted}
 use Rattle.model.proofs.Bool.{by_test}
 use Rattle.model.proofs.Places.{moving_words}
 use Rattle.model.proofs.WorkParts.{work_parts}
@@ -71,7 +72,7 @@ module _ {c : Controller} {es : Errors} {o : Operation} {k : ℕ} where
 
 -- What a step that moved a word leaves.
 abbrev pub moved_to : Controller → Movement → ℕ → Flash → Leaves Stepped
-moved_to c m bits f = record { result = record { controller = c; answer = Accepted; movement = m; bits = bits }; flash = f }
+moved_to c m bits f = record { result = record { controller = c; answer = accepted; movement = Some m; bits = bits }; flash = f }
 
 -- One that stored a word at the place of word k.
 abbrev pub stored_to : Controller → Controller → Operation → ℕ → ℕ → Flash → Leaves Stepped
@@ -110,7 +111,7 @@ module _ {c : Controller} {es : Errors} {o : Operation} (k : ℕ) {q : Queue} {w
   -- It is queued if there is room, and words are left to push.
   pub program_pushes : length ws < 16 → k + length ws < o.count → (v : ℕ)
       → push (state_at c es (Program o 0) k (with_programs c.queues q)) v
-      ≡ record { controller = state_at c es (Program o 0) k (with_programs c.queues (queue_of (ws ++ (v ∷ [])))); answer = Accepted }
+      ≡ record { controller = state_at c es (Program o 0) k (with_programs c.queues (queue_of (ws ++ (v ∷ [])))); answer = accepted }
   unfolding state_at push_answer
   program_pushes n h v =
       let more : k < total_words c.setup.pages o = omega (arith, program_words b) in

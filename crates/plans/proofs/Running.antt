@@ -1,4 +1,6 @@
 -- A controller that has started an operation and moved some of its words: what each call makes of it. Assumes nothing.
+use Rattle.std.specs.Prelude.{Err}
+use Rattle.std.specs.Prelude.{None, Some}
 use Prim.Native.Nat.{ℕ, ◌+◌, ◌<◌, ◌≤◌}
 use native.Mathlib.Omega.{arith}
 use mathlib.Core.Path.{◌≡◌, refl, sym, ap, ◌∙◌}
@@ -21,12 +23,12 @@ use Rattle.model.specs.declared.Queues.{Queues}
 use Rattle.model.specs.declared.Operation.{Operation}
 use Rattle.model.specs.declared.Work.{Work}
 use Rattle.model.specs.declared.Work.TheVariants.{Read, Program, Erase}
-use Rattle.model.specs.declared.Progress.{Progress}
-use Rattle.model.specs.declared.Progress.TheVariants.{Idle, Running}
+use Rattle.model.specs.State.{Progress}
 use Rattle.model.specs.declared.Controller.{Controller}
-use Rattle.model.specs.declared.Movement.TheVariants.{None, Stalled}
-use Rattle.model.specs.declared.Answer.{Answer}
-use Rattle.model.specs.declared.Answer.TheVariants.{Accepted, QueueEmpty, Unexpected}
+use Rattle.model.specs.declared.Movement.TheVariants.{Stalled}
+use Rattle.model.specs.Refusals.{Answer}
+use Rattle.model.specs.Refusals.{accepted}
+use Rattle.model.specs.declared.Refusal.TheVariants.{QueueEmpty, Unexpected}
 use Rattle.model.proofs.Bool.{which}
 use Rattle.model.proofs.Places.{moving_words}
 use Rattle.model.proofs.Answers.{ready_accepts}
@@ -39,7 +41,7 @@ use Rattle.model.proofs.Free.{Free, free_start}
 
 -- What is in progress after k words of n.
 abbrev pub progress_at : Work → ℕ → ℕ → Progress
-progress_at w n k = cond (eqb k n) Idle (Running (at_word w k))
+progress_at w n k = cond (eqb k n) None (Some (at_word w k))
 
 -- The words of the operation.
 abbrev pub words_of : Controller → Work → ℕ
@@ -90,7 +92,7 @@ unfolding state_at
 at_end c es w q v = rw (eq-eqb (words_of c w) (words_of c w) refl, v.idle)
 
 -- Only then.
-pub idle_all : (c : Controller) (es : Errors) (w : Work) (k : ℕ) (q : Queues) → (state_at c es w k q).progress ≡ Idle → k ≡ words_of c w
+pub idle_all : (c : Controller) (es : Errors) (w : Work) (k : ℕ) (q : Queues) → (state_at c es w k q).progress ≡ None → k ≡ words_of c w
 unfolding state_at
 idle_all c es w k q h =
     ⊎_elim (eqb-true k (words_of c w)) (λ e. absurd (true≢false (ap is_busy (rw e at h)))) (which (eqb k (words_of c w)))
@@ -141,7 +143,7 @@ module _ {c : Controller} {es : Errors} {w : Work} {k : ℕ} {q : Queues} (b : B
 
   -- It takes the oldest word,
   pub pops : is_empty q.reads ≡ false
-      → pop (state_at c es w k q) ≡ record { controller = state_at c es w k (with_reads q (popped q.reads)); answer = Accepted; word = oldest q.reads }
+      → pop (state_at c es w k q) ≡ record { controller = state_at c es w k (with_reads q (popped q.reads)); answer = accepted; word = oldest q.reads }
   unfolding state_at pop pop_answer
   pops e = simp (valid_at, e)
 
@@ -155,19 +157,19 @@ module _ {c : Controller} {es : Errors} {w : Work} {k : ℕ} {q : Queues} (b : B
 
   -- After the last word it is refused.
   pub steps_done : (g : Flash) → flash_fits c.setup.pages g ≡ true → k ≡ words_of c w
-      → step (state_at c es w k q) g ≡ still (state_at c es w k q) Unexpected None g
+      → step (state_at c es w k q) g ≡ still (state_at c es w k q) (Err Unexpected) None g
   unfolding state_at
   steps_done g l e = sym (step_idle (state_at c es w k q) g (ready_with g l) (rw (eq-eqb k (words_of c w) e)))
 
   -- Before it,
   module _ (g : Flash) (l : flash_fits c.setup.pages g ≡ true) (more : k < words_of c w) where
     -- the operation is in progress,
-    running : (state_at c es w k q).progress ≡ Running (at_word w k)
+    running : (state_at c es w k q).progress ≡ Some (at_word w k)
     unfolding state_at
     running = rw (ne_eqb k (words_of c w) (λ e. omega arith))
 
     -- so that a step waits
-    pub steps_wait : stalls q (at_word w k) ≡ true → step (state_at c es w k q) g ≡ still (state_at c es w k q) Accepted Stalled g
+    pub steps_wait : stalls q (at_word w k) ≡ true → step (state_at c es w k q) g ≡ still (state_at c es w k q) accepted (Some Stalled) g
     unfolding state_at
     steps_wait s = sym (step_stalled (state_at c es w k q) g (at_word w k) (ready_with g l) running s)
 
@@ -180,7 +182,7 @@ module _ {c : Controller} {es : Errors} {w : Work} {k : ℕ} {q : Queues} (b : B
 
 -- Check 12 refuses it unless what is in progress is a program.
 unexpected : (c x : Controller) (w : Work) (n k : ℕ) → is_program (operation_of w) ≡ false → WorkParts c.setup c.queues.programs w
-    → push_answer x (progress_at w n k) ≡ Unexpected
+    → push_answer x (progress_at w n k) ≡ Err Unexpected
 unfolding push_answer
 unexpected c x (Read o i r) n k e p = ⊎_elim (λ t. rw t) (λ t. rw t) (which (eqb k n))
 unexpected c x (Program o i) n k e p = absurd (true≢false (sym p.kind ∙ e))
@@ -194,8 +196,8 @@ module _ {c : Controller} {es : Errors} {w : Work} {k : ℕ} {q : Queues} (b : B
   pushes_refused a n e = sym (push_refused (state_at c es w k q) v a (ready_at b h) e n)
 
   -- or its word joins the queue;
-  pub pushes : push_answer (state_at c es w k q) (progress_at w (words_of c w) k) ≡ Accepted
-      → push (state_at c es w k q) v ≡ record { controller = state_at c es w k (with_programs q (pushed q.programs v)); answer = Accepted }
+  pub pushes : push_answer (state_at c es w k q) (progress_at w (words_of c w) k) ≡ accepted
+      → push (state_at c es w k q) v ≡ record { controller = state_at c es w k (with_programs q (pushed q.programs v)); answer = accepted }
   unfolding state_at
   pushes e = sym (push_accepted (state_at c es w k q) v (ready_at b h) e)
 

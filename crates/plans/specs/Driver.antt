@@ -1,5 +1,6 @@
 -- Any driver: whatever interleaving of steps, pushes and pops drives a started operation to its end, it leaves what the
 -- whole operation does.
+use Rattle.std.specs.Prelude.{None}
 use Rattle.std.specs.Prelude.{ℕ, ◌+◌, ◌≡◌, true, false, cond, List, [], ◌∷◌, ◌++◌, length, take, drop}
 use Rattle.model.specs.Kinds.{is_read}
 use Rattle.model.specs.Queue.{is_empty}
@@ -9,7 +10,6 @@ use Rattle.model.specs.Steps.{starts, start, push, pop, step}
 use Rattle.model.specs.Whole.{WholeLeaves, whole_answer, short_buffer, whole}
 use Rattle.model.specs.declared.Operation.{Operation}
 use Rattle.model.specs.declared.Controller.{Controller}
-use Rattle.model.specs.declared.Progress.TheVariants.{Idle}
 
 -- The calls that a driver makes.
 pub data Drive : Type 0 where
@@ -64,7 +64,7 @@ begun c f = record { controller = c; flash = f; given = []; taken = []; bits = 0
 -- A driver that ended: nothing is in progress and no read word is left; the words that it pushed are those of the buffer,
 -- in order, from the first on.
 pub record Ended (b : List ℕ) (r : Driven) : Type 0 where
-  pub idle : r.controller.progress ≡ Idle
+  pub idle : r.controller.progress ≡ None
   pub drained : is_empty r.controller.queues.reads ≡ true
   pub in_order : r.given ≡ take (length r.given) b
 

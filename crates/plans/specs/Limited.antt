@@ -9,7 +9,7 @@ use Rattle.model.specs.Whole.{WholeLeaves, leaving, completed, turns, whole_answ
 use Rattle.model.specs.declared.Operation.{Operation}
 use Rattle.model.specs.declared.Controller.{Controller}
 use Rattle.model.specs.declared.Outcome.{Outcome}
-use Rattle.model.specs.declared.Answer.TheVariants.{ShortBuffer}
+use Rattle.model.specs.declared.Refusal.TheVariants.{ShortBuffer}
 
 -- An operation that starts makes the turns of its first words, as many as there are steps.
 unfoldable pub driven_from : ℕ → ℕ → Operation → Outcome → Flash → List ℕ → WholeLeaves

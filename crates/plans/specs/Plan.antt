@@ -16,8 +16,9 @@ use Rattle.model.specs.declared.BusWord.{BusWord}
 use Rattle.model.specs.declared.Operation.{Operation}
 use Rattle.model.specs.declared.Setup.{Setup}
 use Rattle.model.specs.declared.Controller.{Controller}
-use Rattle.model.specs.declared.Answer.{Answer}
-use Rattle.model.specs.declared.Answer.TheVariants.{Accepted, ShortBuffer}
+use Rattle.model.specs.Refusals.{Answer}
+use Rattle.model.specs.Refusals.{accepted}
+use Rattle.model.specs.declared.Refusal.TheVariants.{ShortBuffer}
 
 -- ---- the plan
 
@@ -102,9 +103,9 @@ performed c f o b (Recorded a) = leaving (with_recorded c (number_of a) o) a 0 f
 performed c f o b (Reads a readable ps) =
     leaving (reads_drained (with_recorded c (number_of a) o)) a 0 f (delivered_at f readable 0 ps ++ drop (length ps) b)
 performed c f o b (Programs ps) =
-    leaving (programs_drained c) Accepted (changed_all c.setup (programming b) 0 ps f) (stored_all (programming b) 0 ps f) b
+    leaving (programs_drained c) accepted (changed_all c.setup (programming b) 0 ps f) (stored_all (programming b) 0 ps f) b
 performed c f o b (Erases ps) =
-    leaving c Accepted (changed_all c.setup erasing 0 ps f) (stored_all erasing 0 ps f) b
+    leaving c accepted (changed_all c.setup erasing 0 ps f) (stored_all erasing 0 ps f) b
 
 -- ---- the law: a whole operation, by its calls, leaves what its plan does
 

@@ -1,4 +1,5 @@
 -- Exactly its words. Assumes nothing.
+use Rattle.std.specs.Prelude.{None, Some, Option}
 use Prim.Native.Nat.{ℕ, ◌+◌, ◌-◌, ◌<◌}
 use native.Mathlib.Omega.{arith}
 use mathlib.Core.Path.{◌≡◌, refl, sym, ap, ◌∙◌}
@@ -15,18 +16,17 @@ use Rattle.model.specs.Steps.{progressed, movement, moved, stalls, advance, stil
 use Rattle.model.specs.Host.{host_read}
 use Rattle.model.specs.Rounds.{round}
 use Rattle.model.specs.declared.ByteAddress.{ByteAddress}
-use Rattle.model.specs.declared.HostRequest.{HostRequest}
-use Rattle.model.specs.declared.HostRequest.TheVariants.{Nothing, Word}
-use Rattle.model.specs.declared.Answer.{Answer}
-use Rattle.model.specs.declared.Answer.TheVariants.{Accepted, Unexpected}
+use Rattle.model.specs.Rounds.{HostRequest}
+use Rattle.model.specs.Refusals.{Answer}
+use Rattle.model.specs.Refusals.{accepted}
+use Rattle.model.specs.declared.Refusal.TheVariants.{Unexpected}
 use Rattle.model.specs.declared.Queues.{Queues}
 use Rattle.model.specs.declared.Stepped.{Stepped}
 use Rattle.model.specs.declared.Movement.{Movement}
-use Rattle.model.specs.declared.Movement.TheVariants.{None, Stalled}
+use Rattle.model.specs.declared.Movement.TheVariants.{Stalled}
 use Rattle.model.specs.declared.Work.{Work}
 use Rattle.model.specs.declared.Work.TheVariants.{Read, Program, Erase}
-use Rattle.model.specs.declared.Progress.{Progress}
-use Rattle.model.specs.declared.Progress.TheVariants.{Idle, Running}
+use Rattle.model.specs.State.{Progress}
 use Rattle.model.specs.declared.Controller.{Controller}
 use Rattle.model.proofs.Bool.{by_test}
 use Rattle.model.proofs.Flashes.{same_fits}
@@ -42,7 +42,7 @@ use Rattle.promises.proofs.Validity.{call_keeps}
 
 module _ (n k : ℕ) (some : k < n) where
   -- leaves one word fewer,
-  progressed_left : (d : ℕ) (next : Work) → left_of d (Running next) ≡ n - (k + 1) → left_of d (progressed n k next) + 1 ≡ n - k
+  progressed_left : (d : ℕ) (next : Work) → left_of d (Some next) ≡ n - (k + 1) → left_of d (progressed n k next) + 1 ≡ n - k
   progressed_left d next e =
       by_test (eqb (k + 1) n)
       (λ t. rw t (omega (arith, eqb-true (k + 1) n t)))
@@ -70,7 +70,7 @@ record Moves (c : Controller) (f : Flash) (words : ℕ) (l : Leaves Stepped) : T
   after : left_after words l.result.movement ≡ words - 1
 
 word_moves : (c : Controller) (f g : Flash) {n : ℕ} (k : ℕ) (q : Queues) (next : Work) (bits : ℕ) → k < n
-    → left_of c.setup.pages (Running next) ≡ n - (k + 1) → length g.words ≡ length f.words
+    → left_of c.setup.pages (Some next) ≡ n - (k + 1) → length g.words ≡ length f.words
     → Moves c f (n - k) (record { result = moved c n k q next bits; flash = g })
 word_moves c f g {n} k q next bits some e long = record {
   pages = refl;
@@ -82,15 +82,15 @@ word_moves c f g {n} k q next bits some e long = record {
 
 -- Whatever it moves.
 advance_moves : (c : Controller) (f : Flash) (w : Work) → moved_of w < total_words c.setup.pages (operation_of w)
-    → Moves c f (left_of c.setup.pages (Running w)) (advance c f w)
+    → Moves c f (left_of c.setup.pages (Some w)) (advance c f w)
 unfolding advance
 advance_moves c f (Read o k readable) h = word_moves c f f k _ (Read o (k + 1) readable) 0 h refl refl
 advance_moves c f (Program o k) h = word_moves c f _ k _ (Program o (k + 1)) _ h refl (simp length-set)
 advance_moves c f (Erase o k) h = word_moves c f _ k _ (Erase o (k + 1)) _ h refl (simp length-set)
 
 -- So a step moves a word of the work in progress, if it does not wait.
-busy_moves : (c : Controller) (f : Flash) (w : Work) → valid_with c f ≡ true → c.progress ≡ Running w
-    → Moves c f (left_of c.setup.pages (Running w)) (advance c f w)
+busy_moves : (c : Controller) (f : Flash) (w : Work) → valid_with c f ≡ true → c.progress ≡ Some w
+    → Moves c f (left_of c.setup.pages (Some w)) (advance c f w)
 busy_moves c f w h e = advance_moves c f w (busy_parts c w (with_valid c f h) e).left
 
 -- A step moves whenever it can, and waits otherwise.
@@ -129,7 +129,7 @@ pop_tells s =
     (λ e. record { pages = rw e; long = refl; counts = refl; after = rw e })
 
 -- A step that changes nothing and does not count.
-still_tells : (s : State) (a : Answer) (m : Movement) → step s.controller s.flash ≡ still s.controller a m s.flash
+still_tells : (s : State) (a : Answer) (m : Option Movement) → step s.controller s.flash ≡ still s.controller a m s.flash
     → ((w : ℕ) → (counted_by w m true ≡ true) × (left_after w m ≡ w)) → Tells s Step
 unfolding perform
 still_tells s a m e uncounted = record {
@@ -140,7 +140,7 @@ still_tells s a m e uncounted = record {
 }
 
 -- Of a step, by what is in progress: nothing, or
-idle_tells : (s : State) → s.controller.progress ≡ Idle → Tells s Step
+idle_tells : (s : State) → s.controller.progress ≡ None → Tells s Step
 unfolding step_progress
 idle_tells s e =
     by_test (accepts (ready_answer (valid_with s.controller s.flash) s.controller.phase))
@@ -148,14 +148,14 @@ idle_tells s e =
     (λ t. still_tells s _ None (step_unready s.controller s.flash t) (λ w. (refl, refl)))
 
 -- work, which waits or moves.
-busy_tells : (s : State) (w : Work) → s.controller.progress ≡ Running w → valid_with s.controller s.flash ≡ true → Tells s Step
+busy_tells : (s : State) (w : Work) → s.controller.progress ≡ Some w → valid_with s.controller s.flash ≡ true → Tells s Step
 unfolding perform step_progress
 busy_tells s w e h =
     let go = busy_steps s.controller s.flash w h e in
     let some = busy_moves s.controller s.flash w h e in
     let words = ap (left_of s.controller.setup.pages) e in
     by_test (stalls s.controller.queues w)
-    (λ t. still_tells s Accepted Stalled (rw (go, t)) (λ n. (refl, refl)))
+    (λ t. still_tells s accepted (Some Stalled) (rw (go, t)) (λ n. (refl, refl)))
     (λ t. record {
       pages = rw (go, t) some.pages;
       long = rw (go, t) some.long;
@@ -165,8 +165,8 @@ busy_tells s w e h =
 
 -- Of any step.
 step_tells : (s : State) (p : Progress) → s.controller.progress ≡ p → valid_with s.controller s.flash ≡ true → Tells s Step
-step_tells s Idle e h = idle_tells s e
-step_tells s (Running w) e h = busy_tells s w e h
+step_tells s None e h = idle_tells s e
+step_tells s (Some w) e h = busy_tells s w e h
 
 -- Of a call that leaves and tells of what is in progress what a step does.
 like_step : (s : State) (k : Call) → (perform s k).state.controller.setup.pages ≡ (perform s Step).state.controller.setup.pages
@@ -176,7 +176,7 @@ like_step : (s : State) (k : Call) → (perform s k).state.controller.setup.page
 like_step s k d f w m t = record { pages = d ∙ t.pages; long = rw f t.long; counts = rw m t.counts; after = rw (m, w) t.after }
 
 -- Of a round, whose step is asked or not, and waits or not.
-both_tells : (s : State) {a : ByteAddress} → BothAsked s.controller s.flash a → Tells s Step → Tells s (Round (Word a) true)
+both_tells : (s : State) {a : ByteAddress} → BothAsked s.controller s.flash a → Tells s Step → Tells s (Round (Some a) true)
 unfolding perform host_read
 both_tells s (host x few e) t = record { pages = rw e; long = rw e; counts = rw e; after = rw e }
 both_tells s (instead x many e) t = like_step s _ (rw e) (rw e) (rw e) (rw e) t
@@ -184,15 +184,15 @@ both_tells s (both x e) t = like_step s _ (rw e) (rw e) (rw e) (rw e) t
 
 round_tells : (s : State) (h : HostRequest) (b : Bool) → Tells s Step → Tells s (Round h b)
 unfolding perform round host_read
-round_tells s Nothing false t = record { pages = refl; long = refl; counts = refl; after = refl }
-round_tells s Nothing true t = like_step s (Round Nothing true) refl refl refl refl t
-round_tells s (Word a) false t = record { pages = refl; long = refl; counts = refl; after = refl }
-round_tells s (Word a) true t = both_tells s (both_asked s.controller s.flash a) t
+round_tells s None false t = record { pages = refl; long = refl; counts = refl; after = refl }
+round_tells s None true t = like_step s (Round None true) refl refl refl refl t
+round_tells s (Some a) false t = record { pages = refl; long = refl; counts = refl; after = refl }
+round_tells s (Some a) true t = both_tells s (both_asked s.controller s.flash a) t
 
 -- ---- lists of them
 
 -- What is counted of one call and of the rest is counted of both.
-with_rest : (w : ℕ) (m : Movement) (rest : Bool) → counted_by w m true ≡ true → rest ≡ true → counted_by w m rest ≡ true
+with_rest : (w : ℕ) (m : Option Movement) (rest : Bool) → counted_by w m true ≡ true → rest ≡ true → counted_by w m rest ≡ true
 with_rest w m true h e = h
 with_rest w m false h e = cc
 

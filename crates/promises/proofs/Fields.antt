@@ -1,4 +1,5 @@
 -- A valid state, part by part. Assumes nothing.
+use Rattle.std.specs.Prelude.{None, Some}
 use Prim.Native.Nat.{ℕ, ◌≤◌}
 use mathlib.Core.Path.{◌≡◌}
 use mathlib.Core.Bool.{true, false, ◌||◌, true≢false}
@@ -14,11 +15,10 @@ use Rattle.model.specs.declared.Settings.{Settings}
 use Rattle.model.specs.declared.Errors.{Errors}
 use Rattle.model.specs.declared.Queue.{Queue}
 use Rattle.model.specs.declared.Queues.{Queues}
-use Rattle.model.specs.declared.Progress.{Progress}
-use Rattle.model.specs.declared.Progress.TheVariants.{Idle, Running}
+use Rattle.model.specs.State.{Progress}
 use Rattle.model.specs.declared.Setup.{Setup}
 use Rattle.model.specs.declared.Physical.{Physical}
-use Rattle.model.specs.declared.Answer.{Answer}
+use Rattle.model.specs.Refusals.{Answer}
 use Rattle.model.specs.declared.Controller.{Controller}
 use Rattle.model.proofs.Bool.{and_left, and_right, by_test}
 use Rattle.model.proofs.Valid.{changed, valid_parts}
@@ -133,12 +133,12 @@ settle_keeps c next a v f = by_test (accepts a) (λ e. rw e (f e)) (λ e. rw e v
 pub idle_empty : (s : Setup) (programs : Queue) (p : Progress) → is_busy p ≡ false → running_fits s programs p ≡ true
     → is_empty programs ≡ true
 unfolding running_fits
-idle_empty s programs Idle b h = h
-idle_empty s programs (Running w) b h = absurd (true≢false b)
+idle_empty s programs None b h = h
+idle_empty s programs (Some w) b h = absurd (true≢false b)
 
 -- and nothing else is asked of it.
 pub empty_idle : (s : Setup) (programs : Queue) (p : Progress) → is_busy p ≡ false → is_empty programs ≡ true
     → running_fits s programs p ≡ true
 unfolding running_fits
-empty_idle s programs Idle b h = h
-empty_idle s programs (Running w) b h = absurd (true≢false b)
+empty_idle s programs None b h = h
+empty_idle s programs (Some w) b h = absurd (true≢false b)

@@ -1,4 +1,5 @@
 -- The premises of the promises can be met: states that calls reach from reset with D = 10, settled by computation.
+use Rattle.std.specs.Prelude.{None, Some}
 use Prim.Native.Nat.{ℕ}
 use native.Mathlib.Omega.{arith}
 use mathlib.Core.Path.{◌≡◌, refl, ap}
@@ -24,9 +25,7 @@ use Rattle.model.specs.Rounds.{would_move, next_bank, host_bank, competes, round
 use Rattle.model.specs.Bench.{region, op}
 use Rattle.model.specs.declared.Operation.{Operation}
 use Rattle.model.specs.declared.Work.TheVariants.{Read}
-use Rattle.model.specs.declared.Progress.TheVariants.{Running}
 use Rattle.model.specs.declared.Controller.{Controller}
-use Rattle.model.specs.declared.HostRequest.TheVariants.{Nothing, Word}
 use Rattle.model.specs.declared.Turn.TheVariants.{Waiting}
 use Rattle.plans.specs.Plan.{true_places, words_at}
 use Rattle.promises.specs.Calls.{Call, State, Reply, Performed, Shaped, SetRegion, SetInfo, Initialise, Start, Step, Push, Pop, Whole, HostRead, ViewPage, Round, perform, run}
@@ -88,7 +87,7 @@ told k = ((perform ruled k).reply.answer, (perform ruled k).reply.decider)
 
 -- A round of a host read and a step there.
 abbrev rounded : ℕ → Reply
-rounded a = (perform ruled (Round (Word (record { 0 = a })) true)).reply
+rounded a = (perform ruled (Round (Some (record { 0 = a })) true)).reply
 
 -- What each promise asks for, met.
 pub record Met : Type 0 where
@@ -112,12 +111,12 @@ pub record Met : Type 0 where
   -- `RefusedMovesNothing`, `RefusedUnknown`: a second start is refused
   pub refused : (perform (reached erase) (Start read)).reply.answer ≡ 4
   -- a round's step erases as well, and is refused where nothing is in progress, beside a host read that is accepted
-  pub high_by_round : bit_of (run after_reset (calls erase ++ (Round Nothing true ∷ []))).flash (record { 0 = 0 }) 0 ≡ 1
-  pub refused_step : (perform (run after_reset opening) (Round (Word (record { 0 = 4 })) true)).reply.answer ≡ 12
-  pub host_beside : (perform (run after_reset opening) (Round (Word (record { 0 = 4 })) true)).reply.host.word ≡ all_ones
+  pub high_by_round : bit_of (run after_reset (calls erase ++ (Round None true ∷ []))).flash (record { 0 = 0 }) 0 ≡ 1
+  pub refused_step : (perform (run after_reset opening) (Round (Some (record { 0 = 4 })) true)).reply.answer ≡ 12
+  pub host_beside : (perform (run after_reset opening) (Round (Some (record { 0 = 4 })) true)).reply.host.word ≡ all_ones
   -- `RefusedHostServed`, `RefusedHostUnknown`: a host read of address 1 is refused, and the step waits for it
-  pub refused_host : number_of (perform (reached erase) (Round (Word (record { 0 = 1 })) true)).reply.host.answer ≡ 5
-  pub step_waits : (perform (reached erase) (Round (Word (record { 0 = 1 })) true)).reply.turn ≡ Waiting
+  pub refused_host : number_of (perform (reached erase) (Round (Some (record { 0 = 1 })) true)).reply.host.answer ≡ 5
+  pub step_waits : (perform (reached erase) (Round (Some (record { 0 = 1 })) true)).reply.turn ≡ Waiting
   -- a pushed word is the one that a step programs
   pub stores : get_or (run (reached program) (Push 5 ∷ Step ∷ [])).flash.words 1 0 ≡ 5
   -- whole operations: the buffer's word is programmed, the 0 bit becomes 1, the read of page 1, denied there, puts ones into its
@@ -160,8 +159,8 @@ pub record Met : Type 0 where
   pub host_by_default : reported (rounded 8192).host.answer ≡ 8
   pub step_reports_none : (rounded 8192).decider ≡ no_decider
   -- `PastUnknown`: the read of page 1 has no true word, and that into page 1 one, past which it is after a step
-  pub none_true : (reached read).controller.progress ≡ Running (Read read 0 0)
-  pub past : (run (reached crossing) (Step ∷ [])).controller.progress ≡ Running (Read crossing 1 1)
+  pub none_true : (reached read).controller.progress ≡ Some (Read read 0 0)
+  pub past : (run (reached crossing) (Step ∷ [])).controller.progress ≡ Some (Read crossing 1 1)
   -- before it, a step of it tells of the image
   pub not_past : Alike (reached crossing).controller (image_with 7 0) (image_with 6 0) Step → ⊥
 

@@ -14,7 +14,7 @@ use Rattle.model.specs.Lifecycle.{reset, is_disabled, initialise_answer, initial
 use Rattle.model.specs.Valid.{valid_with, valid, physical_fits, running_fits}
 use Rattle.model.specs.declared.Phase.TheVariants as phase
 use Rattle.model.specs.declared.Controller.{Controller}
-use Rattle.model.specs.declared.Answer.TheVariants.{Invalid, Disabled, Busy}
+use Rattle.model.specs.declared.Refusal.TheVariants.{Invalid, Disabled, Busy}
 use Rattle.model.proofs.Answers.{both_accept, check_passed}
 use Rattle.promises.proofs.Fields.{Valid, ValidQueue, ready_keeps, settle_keeps, empty_idle}
 
@@ -50,7 +50,7 @@ module _ (c : Controller) (v : Valid c) where
   pub reset_keeps : (d : ℕ) → Valid (reset c d).controller
   unfolding reset
   reset_keeps d = settle_keeps c (reset_controller d) (check (not (pages_fit d)) Invalid) v λ h.
-      reset_valid d (not-false _ (check_passed (not (pages_fit d)) Invalid refl h))
+      reset_valid d (not-false _ (check_passed (not (pages_fit d)) Invalid h))
 
   -- initialise too,
   pub initialise_keeps : (f : Flash) → Valid (initialise c f).controller
@@ -64,7 +64,7 @@ module _ (c : Controller) (v : Valid c) where
   rma_keeps f = settle_keeps c (rma_controller c) (rma_answer c f) v λ h.
       let r = (both_accept (check (not (valid_with c f)) Invalid) _ h).1 in
       let b = (both_accept (check (is_disabled c.phase) Disabled) _ r).1 in
-      let idle = check_passed _ Busy refl b in
+      let idle = check_passed _ Busy b in
       record {
         pages = v.pages;
         settings = v.settings;

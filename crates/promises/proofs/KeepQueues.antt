@@ -1,4 +1,5 @@
 -- Push and pop keep a valid state valid. Assumes nothing.
+use Rattle.std.specs.Prelude.{None, Some}
 use Prim.Native.Nat.{ℕ, ◌+◌, ◌<◌}
 use native.Mathlib.Omega.{arith}
 use mathlib.Core.Path.{◌≡◌, refl, sym, ◌∙◌}
@@ -11,10 +12,9 @@ use Rattle.model.specs.Steps.{push_answer, push, pop_answer, pop}
 use Rattle.model.specs.Valid.{valid, running_fits}
 use Rattle.model.specs.declared.Queue.{Queue}
 use Rattle.model.specs.declared.Work.TheVariants.{Read, Program, Erase}
-use Rattle.model.specs.declared.Progress.{Progress}
-use Rattle.model.specs.declared.Progress.TheVariants.{Idle, Running}
+use Rattle.model.specs.State.{Progress}
 use Rattle.model.specs.declared.Controller.{Controller}
-use Rattle.model.specs.declared.Answer.TheVariants.{Invalid, QueueEmpty}
+use Rattle.model.specs.declared.Refusal.TheVariants.{Invalid, QueueEmpty}
 use Rattle.model.proofs.QueueLaws.{push_adds_one, push_keeps_its_places, pop_takes_one, pop_keeps_its_places}
 use Rattle.model.proofs.Answers.{both_accept, check_passed, ready_passed}
 use Rattle.model.proofs.WorkParts.{work_parts, other_word}
@@ -44,9 +44,9 @@ pub record Pushable (c : Controller) (p : Progress) : Type 0 where
 -- So it is where a push is accepted: it belongs to a program that has words left to push.
 pub pushable : (c : Controller) (p : Progress) → accepts (push_answer c p) ≡ true → Pushable c p
 unfolding push_answer running_fits
-pushable c Idle h = absurd (true≢false (sym h))
-pushable c (Running (Read o k r)) h = absurd (true≢false (sym h))
-pushable c (Running (Program o k)) h =
+pushable c None h = absurd (true≢false (sym h))
+pushable c (Some (Read o k r)) h = absurd (true≢false (sym h))
+pushable c (Some (Program o k)) h =
     let (some, room) = push_passed c o k h in
     record {
       room = room;
@@ -54,7 +54,7 @@ pushable c (Running (Program o k)) h =
           other_word c.setup c.queues.programs q (Program o k) k f (work_parts _ _ (Program o k) f).left
           (le-leb (k + q.len) o.count (omega arith));
     }
-pushable c (Running (Erase o k)) h = absurd (true≢false (sym h))
+pushable c (Some (Erase o k)) h = absurd (true≢false (sym h))
 
 module _ (c : Controller) (v : Valid c) where
   -- Push keeps a valid state valid,
@@ -76,7 +76,7 @@ module _ (c : Controller) (v : Valid c) where
   pop_keeps =
       settle_keeps c (with_queues c (with_reads c.queues (popped c.queues.reads))) (pop_answer c) v λ h.
       let b = (both_accept (check (not (valid c)) Invalid) _ h).1 in
-      let some : is_empty c.queues.reads ≡ false = check_passed _ QueueEmpty refl b in
+      let some : is_empty c.queues.reads ≡ false = check_passed _ QueueEmpty b in
       let ready : is_ready c.phase ≡ true = sym (or-false (is_ready c.phase)) ∙ (rw some at v.closed) in
       ready_keeps c c.phase c.errors (with_reads c.queues (popped c.queues.reads)) c.progress v
       ready v.errors (popped_valid c.queues.reads v.reads) v.programs v.running

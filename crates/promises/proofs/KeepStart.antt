@@ -8,9 +8,9 @@ use Rattle.model.specs.Errors.{recorded, error_address}
 use Rattle.model.specs.Steps.{start_answer, starts, progress_after, started, start}
 use Rattle.model.specs.Valid.{running_fits, valid}
 use Rattle.model.specs.declared.Operation.{Operation}
-use Rattle.model.specs.declared.Progress.{Progress}
+use Rattle.model.specs.State.{Progress}
 use Rattle.model.specs.declared.Controller.{Controller}
-use Rattle.model.specs.declared.Answer.TheVariants.{Busy}
+use Rattle.model.specs.declared.Refusal.TheVariants.{Busy}
 use Rattle.model.proofs.Bool.{by_test}
 use Rattle.model.proofs.Order.{pages_bound}
 use Rattle.model.proofs.Answers.{both_accept, check_passed, ready_passed}
@@ -39,4 +39,4 @@ start_keeps c o v = by_test (accepts (start_answer c)) (Î» a. rw a (begun a)) (Î
         let p : Progress = progress_after c o (operation_answer c.setup o) in
         ready_keeps c c.phase (recorded n at c.errors) c.queues p v (ready_passed (valid c) c.phase r)
         (recorded_fits n at c.errors v.errors) v.reads v.programs
-        (progress_after_lem c o v (check_passed (is_busy c.progress) Busy refl b))
+        (progress_after_lem c o v (check_passed (is_busy c.progress) Busy b))

@@ -1,4 +1,5 @@
 -- A step keeps a valid state valid. Assumes nothing.
+use Rattle.std.specs.Prelude.{None, Some}
 use Prim.Native.Nat.{ℕ, ◌+◌, ◌<◌}
 use native.Mathlib.Omega.{arith}
 use mathlib.Core.Path.{◌≡◌}
@@ -15,8 +16,7 @@ use Rattle.model.specs.declared.Queue.{Queue}
 use Rattle.model.specs.declared.Queues.{Queues}
 use Rattle.model.specs.declared.Work.{Work}
 use Rattle.model.specs.declared.Work.TheVariants.{Read, Program, Erase}
-use Rattle.model.specs.declared.Progress.{Progress}
-use Rattle.model.specs.declared.Progress.TheVariants.{Idle, Running}
+use Rattle.model.specs.State.{Progress}
 use Rattle.model.specs.declared.Setup.{Setup}
 use Rattle.model.specs.declared.Controller.{Controller}
 use Rattle.model.proofs.Bool.{by_test}
@@ -73,8 +73,8 @@ module _ (c : Controller) (v : Valid c) (ready : is_ready c.phase ≡ true) (f :
   -- and so does a step of what is in progress.
   pub progress_keeps : (p : Progress) → running_fits c.setup c.queues.programs p ≡ true → Valid (step_progress c f p).result.controller
   unfolding step_progress running_fits
-  progress_keeps Idle h = v
-  progress_keeps (Running w) h =
+  progress_keeps None h = v
+  progress_keeps (Some w) h =
       by_test (stalls c.queues w) (λ e. rw e v) (λ e. rw e (advance_keeps w e h))
 
 -- So each step keeps a valid state valid.

@@ -1,4 +1,5 @@
 -- A denied call names who decided, and every other answer reports none. Assumes nothing.
+use Rattle.std.specs.Prelude.{None, Some}
 use Prim.Native.Nat.{ℕ, ◌+◌}
 use mathlib.Core.Path.{◌≡◌, refl, sym, ◌∙◌}
 use mathlib.Core.Bool.{Bool, true, false, ◌&&◌, ◌||◌, not, cond, true≢false}
@@ -23,16 +24,15 @@ use Rattle.model.specs.declared.Page.{Page}
 use Rattle.model.specs.declared.ByteAddress.{ByteAddress}
 use Rattle.model.specs.declared.Operation.{Operation}
 use Rattle.model.specs.declared.Work.TheVariants.{Read, Program, Erase}
-use Rattle.model.specs.declared.Progress.{Progress}
-use Rattle.model.specs.declared.Progress.TheVariants.{Idle, Running}
+use Rattle.model.specs.State.{Progress}
 use Rattle.model.specs.declared.Setup.{Setup}
 use Rattle.model.specs.declared.Controller.{Controller}
 use Rattle.model.specs.declared.Decider.{Decider}
 use Rattle.model.specs.declared.Phase.{Phase}
 use Rattle.model.specs.declared.Phase.TheVariants as phase
-use Rattle.model.specs.declared.Answer.{Answer}
-use Rattle.model.specs.declared.Answer.TheVariants.{Accepted, Invalid, Disabled, Uninitialised, Busy, Malformed, ShortBuffer, OutOfRange, CrossesWindow, Denied, QueueEmpty, QueueFull, Unexpected, BadSetting}
-use Rattle.model.specs.declared.HostRequest.TheVariants.{Nothing, Word}
+use Rattle.model.specs.Refusals.{Answer}
+use Rattle.model.specs.Refusals.{accepted}
+use Rattle.model.specs.declared.Refusal.TheVariants.{Invalid, Disabled, Uninitialised, Busy, Malformed, ShortBuffer, OutOfRange, CrossesWindow, Denied, QueueEmpty, QueueFull, Unexpected, BadSetting}
 use Rattle.model.proofs.Bool.{by_test}
 use Rattle.model.proofs.Deciders.{denied_first}
 use Rattle.model.proofs.StepLaws.{start_goes_on, start_stops, step_ready, step_unready, running_accepts}
@@ -57,7 +57,7 @@ plain a h = record { says = rw h (undenied_reports_none a h); only = λ e. absur
 -- a check,
 checks : {n : ℕ} {N : ℕ → Type 0} (t : Bool) (a : Answer) → is_denied a ≡ false → Right n N (check t a)
 checks true a h = plain a h
-checks false a h = plain Accepted refl
+checks false a h = plain accepted refl
 
 -- the first of two that applies,
 either : {n : ℕ} {N : ℕ → Type 0} (a b : Answer) → Right n N a → Right n N b → Right n N (or_else a b)
@@ -67,13 +67,13 @@ either a b r q = by_test (accepts a) (λ t. rw t q) (λ t. rw t r)
 ready : {n : ℕ} {N : ℕ → Type 0} (v : Bool) (p : Phase) → Right n N (ready_answer v p)
 ready false p = plain Invalid refl
 ready true phase.Uninitialised = plain Uninitialised refl
-ready true phase.Ready = plain Accepted refl
+ready true phase.Ready = plain accepted refl
 ready true phase.Disabled = plain Disabled refl
 
 -- and check 9.
 denies : {N : ℕ → Type 0} (d : Bool) (by : Decider) → (d ≡ true → N (decider_number by)) → Right (decider_number by) N (check d (Denied by))
 denies true by h = record { says = refl; only = λ e. h refl }
-denies false by h = plain Accepted refl
+denies false by h = plain accepted refl
 
 -- ---- who denies
 
@@ -153,11 +153,11 @@ whole_right c f o b =
 -- push,
 push_right : (c : Controller) (p : Progress) → Never (push_answer c p)
 unfolding push_answer
-push_right c Idle = plain Unexpected refl
-push_right c (Running (Read o moved readable)) = plain Unexpected refl
-push_right c (Running (Program o moved)) =
+push_right c None = plain Unexpected refl
+push_right c (Some (Read o moved readable)) = plain Unexpected refl
+push_right c (Some (Program o moved)) =
     either _ _ (checks (leb o.count (moved + c.queues.programs.len)) Unexpected refl) (checks (is_full c.queues.programs) QueueFull refl)
-push_right c (Running (Erase o moved)) = plain Unexpected refl
+push_right c (Some (Erase o moved)) = plain Unexpected refl
 
 -- pop,
 pop_right : (c : Controller) → Never (pop_answer c)
@@ -167,8 +167,8 @@ pop_right c = either _ _ (checks (not (valid c)) Invalid refl) (checks (is_empty
 -- step,
 progress_right : (c : Controller) (f : Flash) (p : Progress) → Never (step_progress c f p).result.answer
 unfolding step_progress
-progress_right c f Idle = plain Unexpected refl
-progress_right c f (Running w) = rw (running_accepts c f w) (plain Accepted refl)
+progress_right c f None = plain Unexpected refl
+progress_right c f (Some w) = rw (running_accepts c f w) (plain accepted refl)
 
 step_right : (c : Controller) (f : Flash) → Never (step c f).result.answer
 step_right c f =
@@ -192,18 +192,18 @@ view_right c f p =
     (either _ _ (checks (leb (data_pages c.setup.pages) p.0) OutOfRange refl) (page_right c.setup p))
 
 -- and a round: its step,
-round_right : (c : Controller) (f : Flash) {a : ByteAddress} → BothAsked c f a → Never (round c f (Word a) true).result.step.answer
+round_right : (c : Controller) (f : Flash) {a : ByteAddress} → BothAsked c f a → Never (round c f (Some a) true).result.step.answer
 unfolding host_read
-round_right c f (host t few e) = rw e (plain Accepted refl)
+round_right c f (host t few e) = rw e (plain accepted refl)
 round_right c f (instead t many e) = rw e (step_right c f)
 round_right c f (both t e) = rw e (step_right c f)
 
 -- and the host.
 beside_right : (c : Controller) (f : Flash) {a : ByteAddress} → BothAsked c f a
-    → PageRight c.setup (page_of a) (round c f (Word a) true).result.host.answer
+    → PageRight c.setup (page_of a) (round c f (Some a) true).result.host.answer
 unfolding host_read
 beside_right c f {a} (host t few e) = rw e (host_right c f a)
-beside_right c f (instead t many e) = rw e (plain Accepted refl)
+beside_right c f (instead t many e) = rw e (plain accepted refl)
 beside_right c f {a} (both t e) = rw e (host_right c f a)
 
 -- ---- so each call reports rightly
@@ -234,13 +234,13 @@ call_tells s (HostRead a) = tell (host_right s.controller s.flash a)
 call_tells s (ViewPage p) = tell (view_right s.controller s.flash p)
 call_tells s Clear = tell (checks (not (valid s.controller)) Invalid refl)
 call_tells s Rma = tell (rma_right s.controller s.flash)
-call_tells s (Round Nothing false) = tell (plain Accepted refl)
-call_tells s (Round Nothing true) = tell (step_right s.controller s.flash)
-call_tells s (Round (Word a) false) = tell (plain Accepted refl)
-call_tells s (Round (Word a) true) = tell (round_right s.controller s.flash (both_asked s.controller s.flash a))
+call_tells s (Round None false) = tell (plain accepted refl)
+call_tells s (Round None true) = tell (step_right s.controller s.flash)
+call_tells s (Round (Some a) false) = tell (plain accepted refl)
+call_tells s (Round (Some a) true) = tell (round_right s.controller s.flash (both_asked s.controller s.flash a))
 
 host_tells : (s : State) (a : ByteAddress) (b : Bool)
-    → Right (decided_by s (HostRead a)) (Names s (HostRead a)) (perform s (Round (Word a) b)).reply.host.answer
+    → Right (decided_by s (HostRead a)) (Names s (HostRead a)) (perform s (Round (Some a) b)).reply.host.answer
 unfolding perform round host_read
 host_tells s a false = host_right s.controller s.flash a
 host_tells s a true = beside_right s.controller s.flash (both_asked s.controller s.flash a)

@@ -1,4 +1,5 @@
 -- A refused call moves nothing. Assumes nothing.
+use Rattle.std.specs.Prelude.{None, Some}
 use mathlib.Core.Path.{◌≡◌, refl, sym, ap, ◌∙◌}
 use mathlib.Core.Bool.{true, false, cond}
 use Rattle.model.specs.Kinds.{is_read}
@@ -16,9 +17,7 @@ use Rattle.model.specs.Rounds.{round}
 use Rattle.model.specs.declared.ByteAddress.{ByteAddress}
 use Rattle.model.specs.declared.Operation.{Operation}
 use Rattle.model.specs.declared.Work.TheVariants.{Read}
-use Rattle.model.specs.declared.Progress.TheVariants.{Running}
 use Rattle.model.specs.declared.Controller.{Controller}
-use Rattle.model.specs.declared.HostRequest.TheVariants.{Nothing, Word}
 use Rattle.model.specs.declared.Turn.TheVariants.{Served}
 use Rattle.model.proofs.Bool.{and_left, by_test}
 use Rattle.model.proofs.Answers.{accepts_not, unrecorded}
@@ -33,7 +32,7 @@ use Rattle.promises.proofs.RefusedWholes.{whole_left}
 -- A start refused with 5, 7, 8 or 9 starts nothing but a denied read, with its readable words;
 progress_left : (c : Controller) (o : Operation) → accepts (operation_answer c.setup o) ≡ false
     → progress_after c o (operation_answer c.setup o)
-    ≡ cond (is_denied_read o (number_of (operation_answer c.setup o))) (Running (Read o 0 (readable_words c.setup o))) c.progress
+    ≡ cond (is_denied_read o (number_of (operation_answer c.setup o))) (Some (Read o 0 (readable_words c.setup o))) c.progress
 progress_left c o n =
     by_test (is_denied_read o (number_of (operation_answer c.setup o)))
     (λ d. rw (n, d, read_work c.setup o (and_left (is_read o) _ d))) (λ d. rw (n, d))
@@ -68,13 +67,13 @@ leaves s k f c r = record {
 
 -- A refused step does not compete, so a round of both leaves and tells what the step and the host read by themselves do.
 both_left : (s : State) {a : ByteAddress} → BothAsked s.controller s.flash a
-    → ((perform s (Round (Word a) true)).reply.answer ≡ 0 → ⊥) → Leaves s (Round (Word a) true)
+    → ((perform s (Round (Some a) true)).reply.answer ≡ 0 → ⊥) → Leaves s (Round (Some a) true)
 unfolding perform host_read
 both_left s (host t few e) h = absurd (h (rw e))
 both_left s {a} (instead t many e) h =
     absurd (h (rw e (ap number_of (goes_accepted s.controller s.flash (competes_goes s.controller s.flash a t)))))
 both_left s {a} (both t e) h =
-    let r = step_refused s.controller s.flash (rw e at h) in leaves s (Round (Word a) true) (rw (e, r)) (rw (e, r)) (rw (e, r))
+    let r = step_refused s.controller s.flash (rw e at h) in leaves s (Round (Some a) true) (rw (e, r)) (rw (e, r)) (rw (e, r))
 
 -- Every refused call leaves what the table says.
 pub refused_moves_nothing : RefusedMovesNothing
@@ -97,16 +96,16 @@ refused_moves_nothing s (HostRead a) h = leaves s (HostRead a) refl refl (rw (ac
 refused_moves_nothing s (ViewPage p) h = leaves s (ViewPage p) refl refl (rw (accepts_not _ h))
 refused_moves_nothing s Clear h = leaves s Clear refl (rw (accepts_not _ h)) refl
 refused_moves_nothing s Rma h = leaves s Rma (rw (accepts_not _ h)) (rw (accepts_not _ h)) refl
-refused_moves_nothing s (Round Nothing false) h = absurd (h refl)
-refused_moves_nothing s (Round Nothing true) h =
-    let e = step_refused s.controller s.flash h in leaves s (Round Nothing true) (rw e) (rw e) (rw e)
-refused_moves_nothing s (Round (Word a) false) h = absurd (h refl)
-refused_moves_nothing s (Round (Word a) true) h = both_left s (both_asked s.controller s.flash a) h
+refused_moves_nothing s (Round None false) h = absurd (h refl)
+refused_moves_nothing s (Round None true) h =
+    let e = step_refused s.controller s.flash h in leaves s (Round None true) (rw e) (rw e) (rw e)
+refused_moves_nothing s (Round (Some a) false) h = absurd (h refl)
+refused_moves_nothing s (Round (Some a) true) h = both_left s (both_asked s.controller s.flash a) h
 
 -- A refused host read uses its turn, beside a step too.
 both_served : (s : State) {a : ByteAddress} → BothAsked s.controller s.flash a
-    → (number_of (perform s (Round (Word a) true)).reply.host.answer ≡ 0 → ⊥)
-    → ((perform s (Round (Word a) true)).reply.host.turn ≡ Served) × ((perform s (Round (Word a) true)).reply.host.word ≡ 0)
+    → (number_of (perform s (Round (Some a) true)).reply.host.answer ≡ 0 → ⊥)
+    → ((perform s (Round (Some a) true)).reply.host.turn ≡ Served) × ((perform s (Round (Some a) true)).reply.host.word ≡ 0)
 unfolding perform host_read
 both_served s {a} (host t few e) h = let n = accepts_not (host_answer s.controller s.flash a) (rw e at h) in (rw e, rw (e, n))
 both_served s (instead t many e) h = absurd (h (rw e))
@@ -114,7 +113,7 @@ both_served s {a} (both t e) h = let n = accepts_not (host_answer s.controller s
 
 pub refused_host_served : RefusedHostServed
 unfolding perform round host_read
-refused_host_served s Nothing false h = absurd (h refl)
-refused_host_served s Nothing true h = absurd (h refl)
-refused_host_served s (Word a) false h = (refl, rw (accepts_not _ h))
-refused_host_served s (Word a) true h = both_served s (both_asked s.controller s.flash a) h
+refused_host_served s None false h = absurd (h refl)
+refused_host_served s None true h = absurd (h refl)
+refused_host_served s (Some a) false h = (refl, rw (accepts_not _ h))
+refused_host_served s (Some a) true h = both_served s (both_asked s.controller s.flash a) h

@@ -16,8 +16,8 @@ use Rattle.model.specs.Steps.{starts}
 use Rattle.model.specs.Whole.{WholeLeaves, whole, leaving}
 use Rattle.model.specs.declared.Operation.{Operation}
 use Rattle.model.specs.declared.Controller.{Controller}
-use Rattle.model.specs.declared.Answer.{Answer}
-use Rattle.model.specs.declared.Answer.TheVariants.{Accepted}
+use Rattle.model.specs.Refusals.{Answer}
+use Rattle.model.specs.Refusals.{accepted}
 use Rattle.model.proofs.Bool.{by_test, or_right}
 use Rattle.model.proofs.Places.{moving_words}
 use Rattle.model.proofs.Answers.{accepts_not, unrecorded_undenied}
@@ -59,7 +59,7 @@ module _ (c : Controller) (f : Flash) (o : Operation) (b : List ℕ) where
       rw (d, read_cut c.setup o r f, places_length, all, append_assoc)
 
   -- and what else starts is accepted.
-  accepted_left : (p : Plan) → (performed c f o b p).result.answer ≡ Accepted → LeavesRefused p
+  accepted_left : (p : Plan) → (performed c f o b p).result.answer ≡ accepted → LeavesRefused p
   unfolding LeavesRefused
   accepted_left p e h = absurd (h (ap number_of e))
 

@@ -1,4 +1,5 @@
 -- Denied words stay unknown. Assumes nothing.
+use Rattle.std.specs.Prelude.{None, Some}
 use Prim.Native.Nat.{ℕ, ◌≤◌, ◌-◌}
 use mathlib.Core.Path.{◌≡◌, refl, sym, ap, ◌∙◌}
 use mathlib.Core.Bool.{Bool, true, false}
@@ -16,13 +17,11 @@ use Rattle.model.specs.Steps.{stalls, read_word, advance, step_progress, step}
 use Rattle.model.specs.Host.{host_answer, host_read, view_answer, view}
 use Rattle.model.specs.Rounds.{would_move, next_bank, competes, lost_in, host_served, host_goes, step_goes, both_go, round}
 use Rattle.model.specs.declared.ByteAddress.{ByteAddress}
-use Rattle.model.specs.declared.Progress.{Progress}
+use Rattle.model.specs.State.{Progress}
 use Rattle.model.specs.declared.Operation.{Operation}
 use Rattle.model.specs.declared.Work.TheVariants.{Read}
-use Rattle.model.specs.declared.Progress.TheVariants.{Idle, Running}
 use Rattle.model.specs.declared.Controller.{Controller}
-use Rattle.model.specs.declared.HostRequest.{HostRequest}
-use Rattle.model.specs.declared.HostRequest.TheVariants.{Nothing, Word}
+use Rattle.model.specs.Rounds.{HostRequest}
 use Rattle.model.specs.declared.Rounded.{Rounded}
 use Rattle.model.proofs.Bool.{by_test}
 use Rattle.model.proofs.Answers.{accepts_not}
@@ -46,8 +45,8 @@ module _ (c : Controller) (f g : Flash) (long : length f.words ≡ length g.word
   -- and so does a step of what is in progress,
   progress_answer : (p : Progress) → (step_progress c f p).result.answer ≡ (step_progress c g p).result.answer
   unfolding step_progress
-  progress_answer Idle = refl
-  progress_answer (Running w) = running_accepts c f w ∙ sym (running_accepts c g w)
+  progress_answer None = refl
+  progress_answer (Some w) = running_accepts c f w ∙ sym (running_accepts c g w)
 
   step_answer : (step c f).result.answer ≡ (step c g).result.answer
   step_answer =
@@ -61,7 +60,7 @@ module _ (c : Controller) (f g : Flash) (long : length f.words ≡ length g.word
   same_competes a = rw same_valid
 
   by_both : (P : Leaves Rounded → Leaves Rounded → Type 0) (a : ByteAddress) → P (host_goes c f a) (host_goes c g a)
-      → P (step_goes c f) (step_goes c g) → P (both_go c f a) (both_go c g a) → P (round c f (Word a) true) (round c g (Word a) true)
+      → P (step_goes c f) (step_goes c g) → P (both_go c f a) (both_go c g a) → P (round c f (Some a) true) (round c g (Some a) true)
   unfolding round
   by_both P a host instead both =
       by_test (competes c g a)
@@ -90,10 +89,10 @@ module _ (c : Controller) (f g : Flash) (long : length f.words ≡ length g.word
   same_answer (ViewPage p) = rw same_valid
   same_answer Clear = refl
   same_answer Rma = rw same_valid
-  same_answer (Round Nothing false) = refl
-  same_answer (Round Nothing true) = ap number_of step_answer
-  same_answer (Round (Word a) false) = refl
-  same_answer (Round (Word a) true) =
+  same_answer (Round None false) = refl
+  same_answer (Round None true) = ap number_of step_answer
+  same_answer (Round (Some a) false) = refl
+  same_answer (Round (Some a) true) =
       by_both (λ x y. number_of x.result.step.answer ≡ number_of y.result.step.answer) a refl (ap number_of step_answer) (ap number_of step_answer)
 
   -- A refused host read tells the same.
@@ -147,23 +146,23 @@ refused_unknown c f g k long w h =
 
 pub refused_host_unknown : RefusedHostUnknown
 unfolding perform round
-refused_host_unknown c f g Nothing false long h = absurd (h refl)
-refused_host_unknown c f g Nothing true long h = absurd (h refl)
-refused_host_unknown c f g (Word a) false long h = host_unknown c f g long a h
-refused_host_unknown c f g (Word a) true long h =
+refused_host_unknown c f g None false long h = absurd (h refl)
+refused_host_unknown c f g None true long h = absurd (h refl)
+refused_host_unknown c f g (Some a) false long h = host_unknown c f g long a h
+refused_host_unknown c f g (Some a) true long h =
     by_both c f g long (λ x y. (number_of x.result.host.answer ≡ 0 → ⊥) → x.result.host ≡ y.result.host) a
     (host_unknown c f g long a) (λ n. absurd (n refl)) (host_unknown c f g long a) h
 
 -- A step of a read past its true words leaves the same result on every image.
 past_step : (c : Controller) (f g : Flash) (o : Operation) (moved readable : ℕ) → readable ≤ moved
-    → (step_progress c f (Running (Read o moved readable))).result ≡ (step_progress c g (Running (Read o moved readable))).result
+    → (step_progress c f (Some (Read o moved readable))).result ≡ (step_progress c g (Some (Read o moved readable))).result
 unfolding step_progress advance read_word
 past_step c f g o moved readable past =
     by_test (stalls c.queues (Read o moved readable)) (λ e. rw e) (λ e. rw (e, le-ltb moved readable past))
 
 -- So does any step of it, refused or not,
 past_result : (c : Controller) (f g : Flash) {o : Operation} {moved readable : ℕ} → length f.words ≡ length g.words
-    → c.progress ≡ Running (Read o moved readable) → readable ≤ moved → (step c f).result ≡ (step c g).result
+    → c.progress ≡ Some (Read o moved readable) → readable ≤ moved → (step c f).result ≡ (step c g).result
 past_result c f g long p past =
     by_test (accepts (ready_answer (valid_with c g) c.phase))
     (λ e. rw (step_ready c f (rw (same_valid c f g long) e) p, step_ready c g e p) (past_step c f g _ _ _ past))
@@ -173,10 +172,10 @@ past_result c f g long p past =
 round_alike : (c : Controller) (f g : Flash) (h : HostRequest) (b : Bool) → length f.words ≡ length g.words
     → (step c f).result ≡ (step c g).result → Alike c f g (Round h b)
 unfolding perform round host_read
-round_alike c f g Nothing false long same = record { reply = refl; controller = refl }
-round_alike c f g Nothing true long same = record { reply = rw same; controller = rw same }
-round_alike c f g (Word a) false long same = record { reply = refl; controller = refl }
-round_alike c f g (Word a) true long same = record {
+round_alike c f g None false long same = record { reply = refl; controller = refl }
+round_alike c f g None true long same = record { reply = rw same; controller = rw same }
+round_alike c f g (Some a) false long same = record { reply = refl; controller = refl }
+round_alike c f g (Some a) true long same = record {
   reply = by_both c f g long (λ x y. step_side (by_round x).reply ≡ step_side (by_round y).reply) a refl (rw same) (rw same);
   controller = by_both c f g long (λ x y. x.result.controller ≡ y.result.controller) a refl (rw same) (rw same);
 }

@@ -1,4 +1,5 @@
 -- Every call with its inputs, and what it leaves: each call gets controller and flash as the one before left them.
+use Rattle.std.specs.Prelude.{None, Option}
 use Rattle.std.specs.Prelude.{ℕ, ◌≡◌, Bool, List, [], ◌∷◌, length}
 use Rattle.model.specs.State.{Flash, Leaves}
 pub use Rattle.model.specs.State.{State}
@@ -21,10 +22,9 @@ use Rattle.model.specs.declared.Outcome.{Outcome}
 use Rattle.model.specs.declared.Fetched.{Fetched}
 use Rattle.model.specs.declared.Stepped.{Stepped}
 use Rattle.model.specs.declared.Movement.{Movement}
-use Rattle.model.specs.declared.Movement.TheVariants.{None}
 use Rattle.model.specs.declared.Seeds.{Seeds}
 use Rattle.model.specs.declared.Initialised.{Initialised}
-use Rattle.model.specs.declared.HostRequest.{HostRequest}
+use Rattle.model.specs.Rounds.{HostRequest}
 use Rattle.model.specs.declared.Turn.{Turn}
 use Rattle.model.specs.declared.Turn.TheVariants.{Unasked}
 use Rattle.model.specs.declared.HostTurn.{HostTurn}
@@ -57,10 +57,10 @@ pub data Call : Type 0 where
 pub record Reply : Type 0 where
   pub answer : ℕ
   pub decider : ℕ
-  pub movement : Movement
+  pub movement : Option Movement
   pub bits : ℕ
   pub word : ℕ
-  pub seeds : Seeds
+  pub seeds : Option Seeds
   pub view : View
   pub buffer : List ℕ
   pub turn : Turn
@@ -74,7 +74,7 @@ abbrev pub no_view : View
 no_view = record { number = 0; decider = no_decider; start = record { 0 = 0 }; words = [] }
 
 -- A call that is no round asks neither side of one: its answer, decider, movement, bits, word, seeds, view and buffer.
-abbrev pub plainly : ℕ → ℕ → Movement → ℕ → ℕ → Seeds → View → List ℕ → Reply
+abbrev pub plainly : ℕ → ℕ → Option Movement → ℕ → ℕ → Option Seeds → View → List ℕ → Reply
 plainly n by m bits w seeds v b = record {
   answer = n;
   decider = by;
@@ -104,7 +104,7 @@ with_turns r t h = record {
 }
 
 -- Of a step, and of a call that tells its answer alone, with what it reports.
-abbrev pub told_step : ℕ → ℕ → Movement → ℕ → Reply
+abbrev pub told_step : ℕ → ℕ → Option Movement → ℕ → Reply
 told_step n by m bits = plainly n by m bits 0 no_seeds no_view []
 
 abbrev pub told : ℕ → ℕ → Reply

@@ -1,5 +1,6 @@
 -- Confinement: a page that may be neither programmed nor erased keeps every word, and a 0 bit becomes 1 only by an erase
 -- or RMA that covers it.
+use Rattle.std.specs.Prelude.{None, Some}
 use Rattle.std.specs.Prelude.{ℕ, zero, suc, ◌/◌, ◌%◌, ◌^◌, ◌<◌, ◌≡◌, Bool, true, false, ◌&&◌, ◌||◌, not, List, [], ◌∷◌, eqb, get_or}
 use Rattle.model.specs.Geometry.{bank_of_page, image_page_of}
 use Rattle.model.specs.Kinds.{is_page_erase, is_bank_erase, program_right, erase_right}
@@ -12,8 +13,7 @@ use Rattle.model.specs.Valid.{valid}
 use Rattle.model.specs.declared.ImagePage.{ImagePage}
 use Rattle.model.specs.declared.Operation.{Operation}
 use Rattle.model.specs.declared.Work.TheVariants.{Read, Program, Erase}
-use Rattle.model.specs.declared.Progress.{Progress}
-use Rattle.model.specs.declared.Progress.TheVariants.{Idle, Running}
+use Rattle.model.specs.State.{Progress}
 use Rattle.model.specs.declared.Setup.{Setup}
 use Rattle.model.specs.declared.Controller.{Controller}
 use Rattle.model.specs.declared.BusWord.{BusWord}
@@ -66,10 +66,10 @@ bit_of f place bit = stored f place / 2 ^ bit % 2
 
 -- The next step of what is in progress erases the place.
 abbrev pub step_erases : ℕ → Progress → BusWord → Bool
-step_erases d Idle place = false
-step_erases d (Running (Read o k readable)) place = false
-step_erases d (Running (Program o k)) place = false
-step_erases d (Running (Erase o k)) place = eqb (place_of d o k).0 place.0
+step_erases d None place = false
+step_erases d (Some (Read o k readable)) place = false
+step_erases d (Some (Program o k)) place = false
+step_erases d (Some (Erase o k)) place = eqb (place_of d o k).0 place.0
 
 -- One of the first n words of an operation is at the place.
 abbrev pub has_word_at : ℕ → Operation → ℕ → BusWord → Bool

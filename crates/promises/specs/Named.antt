@@ -1,5 +1,6 @@
 -- A denied call names who decided: 'The look-up of rights must answer the rights and who decided. Its users pass it along;
 -- refusal 9 reports it.' (02, L2)
+use Rattle.std.specs.Prelude.{Some}
 use Rattle.std.specs.Prelude.{ℕ, ◌<◌, ◌≡◌, Bool, true, false, get_or}
 use Rattle.model.specs.Geometry.{page_of, bank_of}
 use Rattle.model.specs.Kinds.{is_information, is_bank_erase, read_right}
@@ -11,8 +12,7 @@ use Rattle.model.specs.declared.ByteAddress.{ByteAddress}
 use Rattle.model.specs.declared.Operation.{Operation}
 use Rattle.model.specs.declared.Setup.{Setup}
 use Rattle.model.specs.declared.Decider.TheVariants.{BankPermission}
-use Rattle.model.specs.declared.HostRequest.{HostRequest}
-use Rattle.model.specs.declared.HostRequest.TheVariants.{Word}
+use Rattle.model.specs.Rounds.{HostRequest}
 use Rattle.promises.specs.Calls.{Call, State, Reset, SetInputs, SetRegion, SetDefault, SetInfo, SetErase, Initialise, Start, Step, Push, Pop, Whole, HostRead, ViewPage, Clear, Rma, Round, perform}
 
 -- 'It's the decider at the first denied page': word k is the first of the operation's on a page without the right that it
@@ -69,8 +69,8 @@ NoneElse = (s : State) (k : Call) → ((perform s k).reply.answer ≡ 9 → ⊥)
 -- So is the host in a round: denied, it is told as by its own call, and otherwise none.
 abbrev pub HostNames : Type 0
 HostNames =
-    (s : State) (a : ByteAddress) (b : Bool) → number_of (perform s (Round (Word a) b)).reply.host.answer ≡ 9
-    → Names s (HostRead a) (reported (perform s (Round (Word a) b)).reply.host.answer)
+    (s : State) (a : ByteAddress) (b : Bool) → number_of (perform s (Round (Some a) b)).reply.host.answer ≡ 9
+    → Names s (HostRead a) (reported (perform s (Round (Some a) b)).reply.host.answer)
 
 abbrev pub HostNoneElse : Type 0
 HostNoneElse =

@@ -1,4 +1,5 @@
 -- A refused call moves no flash, and leaves the controller and its reply exactly as 01's table and 02's L3 say.
+use Rattle.std.specs.Prelude.{None, Some}
 use Rattle.std.specs.Prelude.{ℕ, ◌-◌, ◌≡◌, Bool, false, cond, List, [], ◌++◌, eqb, drop, replicate}
 use Rattle.model.specs.Geometry.{page_of}
 use Rattle.model.specs.Words.{all_ones}
@@ -12,11 +13,8 @@ use Rattle.model.specs.Host.{View, host_read}
 use Rattle.model.specs.Rounds.{host_unserved, host_served}
 use Rattle.model.specs.declared.Operation.{Operation}
 use Rattle.model.specs.declared.Work.TheVariants.{Read}
-use Rattle.model.specs.declared.Progress.TheVariants.{Running}
 use Rattle.model.specs.declared.Controller.{Controller}
-use Rattle.model.specs.declared.Movement.TheVariants.{None}
-use Rattle.model.specs.declared.HostRequest.{HostRequest}
-use Rattle.model.specs.declared.HostRequest.TheVariants.{Nothing, Word}
+use Rattle.model.specs.Rounds.{HostRequest}
 use Rattle.model.specs.declared.Turn.TheVariants.{Unasked, Served}
 use Rattle.model.specs.declared.HostTurn.{HostTurn}
 use Rattle.plans.specs.Plan.{true_places, words_at}
@@ -26,7 +24,7 @@ use Rattle.promises.specs.Calls.{Call, State, Reply, Reset, SetInputs, SetRegion
 abbrev pub started_by : Controller → Operation → ℕ → Controller
 started_by c o n =
     with_progress (with_recorded c n o)
-    (cond (is_denied_read o n) (Running (Read o 0 (readable_words c.setup o))) c.progress)
+    (cond (is_denied_read o n) (Some (Read o 0 (readable_words c.setup o))) c.progress)
 
 -- A refused whole operation has run nothing but a denied read, whose words went through the read queue.
 abbrev pub driven_by : Controller → Operation → ℕ → Controller
@@ -62,8 +60,8 @@ left_by c (Round h b) n = c
 
 -- Beside a refused step, a round tells the host what its own call would. (02, L1)
 abbrev pub host_told : State → HostRequest → HostTurn
-host_told s Nothing = host_unserved Unasked
-host_told s (Word a) = host_served (host_read s.controller s.flash a)
+host_told s None = host_unserved Unasked
+host_told s (Some a) = host_served (host_read s.controller s.flash a)
 
 -- Who decides where a call is denied: of an operation who denies it, of a host read or view whoever decides its data page.
 -- No other call is denied. (02, L2)

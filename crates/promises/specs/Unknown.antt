@@ -1,5 +1,6 @@
 -- Denied words stay unknown: what a refused call tells and leaves depends on no word of the flash but the true words of a denied
 -- read, which lie before its first denied page; and past them a read depends on none. (02, L3)
+use Rattle.std.specs.Prelude.{Some}
 use Rattle.std.specs.Prelude.{ℕ, ◌≤◌, ◌≡◌, Bool, cond, List, [], length}
 use Rattle.model.specs.State.{Flash}
 use Rattle.model.specs.Refusals.{number_of, is_denied_read}
@@ -7,9 +8,8 @@ use Rattle.model.specs.Rounds.{host_unserved}
 use Rattle.model.specs.declared.BusWord.{BusWord}
 use Rattle.model.specs.declared.Operation.{Operation}
 use Rattle.model.specs.declared.Work.TheVariants.{Read}
-use Rattle.model.specs.declared.Progress.TheVariants.{Running}
 use Rattle.model.specs.declared.Controller.{Controller}
-use Rattle.model.specs.declared.HostRequest.{HostRequest}
+use Rattle.model.specs.Rounds.{HostRequest}
 use Rattle.model.specs.declared.Turn.TheVariants.{Unasked}
 use Rattle.plans.specs.Plan.{true_places, words_at}
 use Rattle.promises.specs.Calls.{Call, State, Reply, Reset, SetInputs, SetRegion, SetDefault, SetInfo, SetErase, Initialise, Start, Step, Push, Pop, Whole, HostRead, ViewPage, Clear, Rma, Round, with_turns, perform}
@@ -66,5 +66,5 @@ RefusedHostUnknown =
 abbrev pub PastUnknown : Type 0
 PastUnknown =
     (c : Controller) (f g : Flash) (o : Operation) (moved readable : ℕ) → length f.words ≡ length g.words
-    → c.progress ≡ Running (Read o moved readable) → readable ≤ moved
+    → c.progress ≡ Some (Read o moved readable) → readable ≤ moved
     → Alike c f g Step × ((h : HostRequest) (b : Bool) → Alike c f g (Round h b))

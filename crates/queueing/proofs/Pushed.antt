@@ -1,4 +1,5 @@
 -- What a push leaves, by the tests that it makes. Assumes nothing.
+use Rattle.std.specs.Prelude.{None, Some}
 use Prim.Native.Nat.{ℕ, ◌+◌, ◌<◌}
 use mathlib.Core.Path.{◌≡◌, refl, ap, sym, subst, ◌∙◌}
 use mathlib.Core.Bool.{true, false}
@@ -12,12 +13,11 @@ use Rattle.model.specs.Valid.{valid}
 use Rattle.model.specs.Queue.{is_full, pushed}
 use Rattle.model.specs.Refusals.{accepts, ready_answer, number_of}
 use Rattle.model.specs.Steps.{push, push_answer}
-use Rattle.model.specs.declared.Answer.{Answer}
-use Rattle.model.specs.declared.Answer.TheVariants.{QueueFull, Unexpected}
+use Rattle.model.specs.Refusals.{Answer}
+use Rattle.model.specs.declared.Refusal.TheVariants.{QueueFull, Unexpected}
 use Rattle.model.specs.declared.Operation.{Operation}
 use Rattle.model.specs.declared.Work.{Work}
 use Rattle.model.specs.declared.Work.TheVariants.{Read, Program, Erase}
-use Rattle.model.specs.declared.Progress.TheVariants.{Idle, Running}
 use Rattle.model.specs.declared.Outcome.{Outcome}
 use Rattle.model.specs.declared.Controller.{Controller}
 use Rattle.model.specs.contracts.Work.{the_type}
@@ -63,18 +63,18 @@ module _ (s : List ℕ) (w : ℕ) (answer : Answer) (asked : answer ≡ ready_an
     by_push e = ap (outcome_left s) (e ∙ ap (λ (c : Controller). push c w) (sym same))
 
     -- nothing is in progress,
-    pub push_idle : progress_at s ≡ Idle → record { told = 12; registers = s } ≡ push_in s w
+    pub push_idle : progress_at s ≡ None → record { told = 12; registers = s } ≡ push_in s w
     unfolding stands_for
     push_idle e = by_push (push_refused (stands_for s) w Unexpected ready (nothing_running (stands_for s) e) refl)
 
     -- or no program,
-    pub push_other : (v : Work) → progress_at s ≡ Running v → ((o : Operation) (k : ℕ) → v ≡ Program o k → ⊥) → record { told = 12; registers = s } ≡ push_in s w
+    pub push_other : (v : Work) → progress_at s ≡ Some v → ((o : Operation) (k : ℕ) → v ≡ Program o k → ⊥) → record { told = 12; registers = s } ≡ push_in s w
     unfolding stands_for
     push_other v e t =
         by_push (push_refused (stands_for s) w Unexpected ready (ap (push_answer (stands_for s)) e ∙ no_program (stands_for s) v (other v t)) refl)
 
     -- or a program.
-    module _ (o : Operation) (k : ℕ) (e : progress_at s ≡ Running (Program o k)) where
+    module _ (o : Operation) (k : ℕ) (e : progress_at s ≡ Some (Program o k)) where
       pub push_all : leb o.count (k + (queue_at s programs_from).len) ≡ true → record { told = 12; registers = s } ≡ push_in s w
       unfolding stands_for
       push_all t =

@@ -1,4 +1,5 @@
 -- An operation in progress whose partition and type are bytes keeps them, whatever is called. Assumes nothing.
+use Rattle.std.specs.Prelude.{None, Some}
 use Prim.Native.Nat.{ℕ, ◌+◌, ◌≤◌}
 use native.Mathlib.Omega.{arith}
 use mathlib.Core.Path.{◌≡◌, refl}
@@ -15,8 +16,7 @@ use Rattle.model.specs.Valid.{valid_with}
 use Rattle.model.specs.declared.Operation.{Operation}
 use Rattle.model.specs.declared.Work.{Work}
 use Rattle.model.specs.declared.Work.TheVariants.{Read, Program, Erase}
-use Rattle.model.specs.declared.Progress.{Progress}
-use Rattle.model.specs.declared.Progress.TheVariants.{Idle, Running}
+use Rattle.model.specs.State.{Progress}
 use Rattle.model.specs.declared.Setup.{Setup}
 use Rattle.model.specs.declared.Controller.{Controller}
 use Rattle.model.proofs.Bool.{and_right, or_left, or_right, by_test}
@@ -42,7 +42,7 @@ formed_bytes o h small =
     let partition : o.partition ≤ 1 = ltb-false 1 o.partition (or_left (no_partition o) _ (or_right (no_kind o) _ h)) in
     rw (le-leb o.partition 255 (omega arith)) (le-leb o.info 255 small)
 
-work_bytes : (s : Setup) (o : Operation) → bytes o ≡ true → Bytes (Running (work_of s o))
+work_bytes : (s : Setup) (o : Operation) → bytes o ≡ true → Bytes (Some (work_of s o))
 work_bytes s o h =
     by_test (is_read o) (λ r. rw r (record { are = h }))
     (λ r. rw r (by_test (is_program o) (λ p. rw p (record { are = h })) (λ p. rw p (record { are = h }))))
@@ -59,11 +59,11 @@ start_bytes c o small b =
 
 -- ---- step
 
-progressed_bytes : (n k : ℕ) (w : Work) → Bytes (Running w) → Bytes (progressed n k w)
+progressed_bytes : (n k : ℕ) (w : Work) → Bytes (Some w) → Bytes (progressed n k w)
 progressed_bytes n k w h = by_test (eqb (k + 1) n) (λ e. rw e (record { are = refl })) (λ e. rw e h)
 
 module _ (c : Controller) (f : Flash) where
-  advance_bytes : (w : Work) → Bytes (Running w) → Bytes (advance c f w).result.controller.progress
+  advance_bytes : (w : Work) → Bytes (Some w) → Bytes (advance c f w).result.controller.progress
   unfolding advance
   advance_bytes (Read o k r) h = progressed_bytes (total_words c.setup.pages o) k (Read o (k + 1) r) (record { are = h.are })
   advance_bytes (Program o k) h = progressed_bytes (total_words c.setup.pages o) k (Program o (k + 1)) (record { are = h.are })
@@ -71,8 +71,8 @@ module _ (c : Controller) (f : Flash) where
 
   progress_bytes : (p : Progress) → Bytes p → Bytes c.progress → Bytes (step_progress c f p).result.controller.progress
   unfolding step_progress
-  progress_bytes Idle h b = b
-  progress_bytes (Running w) h b = by_test (stalls c.queues w) (λ e. rw e b) (λ e. rw e (advance_bytes w h))
+  progress_bytes None h b = b
+  progress_bytes (Some w) h b = by_test (stalls c.queues w) (λ e. rw e b) (λ e. rw e (advance_bytes w h))
 
   pub step_bytes : Bytes c.progress → Bytes (step c f).result.controller.progress
   unfolding step

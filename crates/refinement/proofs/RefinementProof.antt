@@ -15,7 +15,7 @@ use Rattle.model.specs.Steps.{start_answer, start, push, pop_answer, pop, step}
 use Rattle.model.specs.Valid.{valid, valid_with}
 use Rattle.model.specs.Rounds.{round}
 use Rattle.model.specs.Whole.{whole_answer, whole}
-use Rattle.model.specs.declared.HostRequest.{HostRequest}
+use Rattle.model.specs.Rounds.{HostRequest}
 use Rattle.model.specs.declared.Controller.{Controller}
 use Rattle.model.proofs.Bool.{or_right, by_test}
 use Rattle.plans.proofs.Left.{whole_leaves}

@@ -12,7 +12,7 @@ use Rattle.model.specs.declared.Inputs.{Inputs}
 use Rattle.model.specs.declared.Region.{Region}
 use Rattle.model.specs.declared.PageSetting.{PageSetting}
 use Rattle.model.specs.declared.Operation.{Operation}
-use Rattle.model.specs.declared.HostRequest.{HostRequest}
+use Rattle.model.specs.Rounds.{HostRequest}
 use Rattle.registers.specs.Layout.{register_count}
 use Rattle.registers.specs.Registers.{decode}
 use Rattle.calls.specs.Calls.{set_inputs_in, set_region_in, set_default_in, set_info_in, set_erase_in, clear_in, push_in, pop_in, initialise_in, step_in, rma_in, reset_in, start_in, whole_in, round_in}

@@ -1,32 +1,41 @@
-// Answers by number and what they report, chains of checks (the first that applies answers), and the error record.
+// Answers and refusals by number and what they report, checks, and the error record.
 #![tactic(auto)]
 
 ghost use Rattle.std.specs.Prelude.{◌≡◌};
 ghost use Rattle.model.specs.Errors.{is_recorded, recorded};
-ghost use Rattle.model.specs.Refusals.{number_of, decider_number, reported, accepts, is_denied, check, or_else, phase_answer, ready_answer};
+ghost use Rattle.model.specs.Refusals.{refusal_number, number_of, decider_number, reported, accepts, is_denied, check, or_else, phase_answer, ready_answer};
 ghost use Rattle.model.specs.State.{is_ready, is_busy, no_errors};
 
-use model::{Answer, ByteAddress, Decider, Errors, NO_DECIDER, Phase, Progress};
+use model::{Answer, ByteAddress, Decider, Errors, NO_DECIDER, Phase, Progress, Refusal};
 
-// The answer's number in document 01; 0 if nothing was refused.
+// A refusal's number in document 01.
+pub fn number(r: Refusal) -> u8
+    ensures { result ≡ refusal_number r }
+{
+    match r {
+        Refusal::Invalid => 1,
+        Refusal::Disabled => 2,
+        Refusal::Uninitialised => 3,
+        Refusal::Busy => 4,
+        Refusal::Malformed => 5,
+        Refusal::ShortBuffer => 6,
+        Refusal::OutOfRange => 7,
+        Refusal::CrossesWindow => 8,
+        Refusal::Denied(_) => 9,
+        Refusal::QueueEmpty => 10,
+        Refusal::QueueFull => 11,
+        Refusal::Unexpected => 12,
+        Refusal::BadSetting => 13,
+    }
+}
+
+// The answer's number; 0 if nothing was refused.
 pub fn number_of(a: Answer) -> u8
     ensures { result ≡ number_of a }
 {
     match a {
-        Answer::Accepted => 0,
-        Answer::Invalid => 1,
-        Answer::Disabled => 2,
-        Answer::Uninitialised => 3,
-        Answer::Busy => 4,
-        Answer::Malformed => 5,
-        Answer::ShortBuffer => 6,
-        Answer::OutOfRange => 7,
-        Answer::CrossesWindow => 8,
-        Answer::Denied(_) => 9,
-        Answer::QueueEmpty => 10,
-        Answer::QueueFull => 11,
-        Answer::Unexpected => 12,
-        Answer::BadSetting => 13,
+        Ok(()) => 0,
+        Err(refusal) => number(refusal),
     }
 }
 
@@ -48,27 +57,16 @@ pub fn reported(a: Answer) -> u8
     ensures { result ≡ reported a }
 {
     match a {
-        Answer::Accepted => NO_DECIDER,
-        Answer::Invalid => NO_DECIDER,
-        Answer::Disabled => NO_DECIDER,
-        Answer::Uninitialised => NO_DECIDER,
-        Answer::Busy => NO_DECIDER,
-        Answer::Malformed => NO_DECIDER,
-        Answer::ShortBuffer => NO_DECIDER,
-        Answer::OutOfRange => NO_DECIDER,
-        Answer::CrossesWindow => NO_DECIDER,
-        Answer::Denied(by) => decider_number(by),
-        Answer::QueueEmpty => NO_DECIDER,
-        Answer::QueueFull => NO_DECIDER,
-        Answer::Unexpected => NO_DECIDER,
-        Answer::BadSetting => NO_DECIDER,
+        Ok(()) => NO_DECIDER,
+        Err(Refusal::Denied(by)) => decider_number(by),
+        Err(_) => NO_DECIDER,
     }
 }
 
 pub fn accepts(a: Answer) -> bool
     ensures { result ≡ accepts a }
 {
-    number_of(a) == 0
+    a.is_ok()
 }
 
 pub fn is_denied(a: Answer) -> bool
@@ -85,17 +83,17 @@ pub fn is_recorded(n: u8) -> bool
 }
 
 // A check: the refusal if its test holds.
-pub fn check(test: bool, refusal: Answer) -> Answer
+pub fn check(test: bool, refusal: Refusal) -> Answer
     ensures { result ≡ check test refusal }
 {
-    if test { refusal } else { Answer::Accepted }
+    if test { Err(refusal) } else { Ok(()) }
 }
 
 // The first of two checks that applies.
 pub fn or_else(a: Answer, b: Answer) -> Answer
     ensures { result ≡ or_else a b }
 {
-    if accepts(a) { b } else { a }
+    a.and(b)
 }
 
 // ---- the phase, and what is in progress
@@ -113,10 +111,7 @@ pub fn is_ready(p: Phase) -> bool
 pub fn is_busy(p: Progress) -> bool
     ensures { result ≡ is_busy p }
 {
-    match p {
-        Progress::Idle => false,
-        Progress::Running(_) => true,
-    }
+    p.is_some()
 }
 
 // Check 2 or 3 of a phase.
@@ -124,9 +119,9 @@ pub fn phase_answer(p: Phase) -> Answer
     ensures { result ≡ phase_answer p }
 {
     match p {
-        Phase::Uninitialised => Answer::Uninitialised,
-        Phase::Ready => Answer::Accepted,
-        Phase::Disabled => Answer::Disabled,
+        Phase::Uninitialised => Err(Refusal::Uninitialised),
+        Phase::Ready => Ok(()),
+        Phase::Disabled => Err(Refusal::Disabled),
     }
 }
 
@@ -134,8 +129,8 @@ pub fn phase_answer(p: Phase) -> Answer
 pub fn ready_answer(valid: bool, p: Phase) -> Answer
     ensures { result ≡ ready_answer valid p }
 {
-    let phase = phase_answer(p);
-    or_else(check(!valid, Answer::Invalid), phase)
+    check(!valid, Refusal::Invalid)?;
+    phase_answer(p)
 }
 
 // ---- the error record

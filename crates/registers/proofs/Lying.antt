@@ -1,4 +1,5 @@
 -- What is in progress, and the lost counts, read where they lie. Assumes nothing.
+use Rattle.std.specs.Prelude.{None, Some}
 use Prim.Native.Nat.{ℕ, zero, suc, ◌+◌, ◌≤◌}
 use native.Mathlib.Omega.{arith}
 use mathlib.Core.Path.{◌≡◌, refl, ap}
@@ -9,8 +10,7 @@ use Rattle.model.specs.Kinds.{is_read, is_program}
 use Rattle.model.specs.State.{operation_of, moved_of}
 use Rattle.model.specs.Rounds.{lost_in}
 use Rattle.model.specs.declared.Work.{Work}
-use Rattle.model.specs.declared.Progress.{Progress}
-use Rattle.model.specs.declared.Progress.TheVariants.{Idle, Running}
+use Rattle.model.specs.State.{Progress}
 use Rattle.model.proofs.Bool.{by_test}
 use Rattle.registers.specs.Layout.{moved_at, running_at, lost_from}
 use Rattle.registers.specs.Registers.{is_on, operation_at, work_at, progress_at, stands_for}
@@ -18,14 +18,14 @@ use Rattle.registers.specs.Registers.{is_on, operation_at, work_at, progress_at,
 -- ---- the operation in progress
 
 abbrev work_in : Progress → Work → Work
-work_in Idle v = v
-work_in (Running w) v = w
+work_in None v = v
+work_in (Some w) v = w
 
-is_work : (on : Bool) (v w : Work) → cond on (Running v) Idle ≡ Running w → v ≡ w
+is_work : (on : Bool) (v w : Work) → cond on (Some v) None ≡ Some w → v ≡ w
 is_work true v w e = ap (λ (p : Progress). work_in p v) e
 is_work false v w e = ap (λ (p : Progress). work_in p v) e
 
-pub work_lies : (s : List ℕ) (w : Work) → progress_at s ≡ Running w → work_at s ≡ w
+pub work_lies : (s : List ℕ) (w : Work) → progress_at s ≡ Some w → work_at s ≡ w
 unfolding progress_at
 work_lies s w e = is_work (is_on (get_or s running_at 0)) (work_at s) w e
 

@@ -1,4 +1,5 @@
 -- What is put into the registers stands where it was put, and is read again as it was. Assumes nothing.
+use Rattle.std.specs.Prelude.{None, Some}
 use Prim.Native.Nat.{ℕ, zero, suc, ◌+◌, ◌*◌, ◌/◌, ◌%◌, ◌<◌, ◌≤◌}
 use native.Mathlib.Nat.{add-zero, not-suc-le-zero, le_of_suc-le-suc}
 use native.Mathlib.Omega.{arith}
@@ -19,8 +20,7 @@ use Rattle.model.specs.declared.Errors.{Errors}
 use Rattle.model.specs.declared.Operation.{Operation}
 use Rattle.model.specs.declared.Queue.{Queue}
 use Rattle.model.specs.declared.Work.TheVariants.{Read, Program, Erase}
-use Rattle.model.specs.declared.Progress.{Progress}
-use Rattle.model.specs.declared.Progress.TheVariants.{Idle, Running}
+use Rattle.model.specs.State.{Progress}
 use Rattle.model.specs.declared.Controller.{Controller}
 use Rattle.model.proofs.Bool.{and_left, and_right, by_test}
 use Rattle.registers.specs.Registers.{is_flag, is_on, flag_of, mask_of, phase_of, phase_number, listed, every, progress_encoded, region_encoded, setting_encoded, region_at, setting_at, queue_at, errors_at}
@@ -216,21 +216,21 @@ cond_long true x y = x
 cond_long false x y = y
 
 pub under_progress : (t : List ℕ) {k v : ℕ} (r : Progress) → k < 91 → At t k v → At (put_progress t r) k v
-under_progress t Idle b a = cond_at (is_on (get_or t 98 0)) (over_sets 91 zeros b a) a
-under_progress t (Running (Read o moved readable)) b a = over_sets 91 (eight o moved readable) b a
-under_progress t (Running (Program o moved)) b a = over_sets 91 (eight o moved (readable_kept t)) b a
-under_progress t (Running (Erase o moved)) b a = over_sets 91 (eight o moved (readable_kept t)) b a
+under_progress t None b a = cond_at (is_on (get_or t 98 0)) (over_sets 91 zeros b a) a
+under_progress t (Some (Read o moved readable)) b a = over_sets 91 (eight o moved readable) b a
+under_progress t (Some (Program o moved)) b a = over_sets 91 (eight o moved (readable_kept t)) b a
+under_progress t (Some (Erase o moved)) b a = over_sets 91 (eight o moved (readable_kept t)) b a
 
 pub long_progress : (t : List ℕ) (r : Progress) → Long t → Long (put_progress t r)
-long_progress t Idle l = cond_long (is_on (get_or t 98 0)) (long_sets 91 zeros l) l
-long_progress t (Running (Read o moved readable)) l = long_sets 91 (eight o moved readable) l
-long_progress t (Running (Program o moved)) l = long_sets 91 (eight o moved (readable_kept t)) l
-long_progress t (Running (Erase o moved)) l = long_sets 91 (eight o moved (readable_kept t)) l
+long_progress t None l = cond_long (is_on (get_or t 98 0)) (long_sets 91 zeros l) l
+long_progress t (Some (Read o moved readable)) l = long_sets 91 (eight o moved readable) l
+long_progress t (Some (Program o moved)) l = long_sets 91 (eight o moved (readable_kept t)) l
+long_progress t (Some (Erase o moved)) l = long_sets 91 (eight o moved (readable_kept t)) l
 
 pub off_is_zero : (x : ℕ) → is_on x ≡ false → x ≡ 0
 off_is_zero x off = by_test (eqb x 0) (λ zero. eqb-true x 0 zero) (λ other. absurd (true≢false (rw other at off)))
 
-pub idle_put : (t : List ℕ) → Long t → At (put_progress t Idle) 98 0
+pub idle_put : (t : List ℕ) → Long t → At (put_progress t None) 98 0
 idle_put t l =
     by_test (is_on (get_or t 98 0)) (λ on. rw on (there_sets 91 zeros 7 (omega arith) (omega arith) l))
     (λ off. rw off (record { is = off_is_zero (get_or t 98 0) off }))
@@ -379,10 +379,10 @@ abbrev pub bytes : Operation → Bool
 bytes o = leb o.partition 255 && leb o.info 255
 
 abbrev pub as_bytes : Progress → Bool
-as_bytes Idle = true
-as_bytes (Running (Read o moved readable)) = bytes o
-as_bytes (Running (Program o moved)) = bytes o
-as_bytes (Running (Erase o moved)) = bytes o
+as_bytes None = true
+as_bytes (Some (Read o moved readable)) = bytes o
+as_bytes (Some (Program o moved)) = bytes o
+as_bytes (Some (Erase o moved)) = bytes o
 
 pub operation_is : {t : List ℕ} {o : Operation} {moved readable : ℕ} → bytes o ≡ true → o.kind ≤ 3 → RunningAt t o moved readable → operation_at t ≡ o
 operation_is {o = o} h small q =
@@ -405,7 +405,7 @@ pub record ProgressAt (t : List ℕ) (r : Progress) : Type 0 where
   pub encodes : progress_encoded t ≡ true
 
 module _ (c : Controller) {t : List ℕ} {o : Operation} {moved readable : ℕ} (h : bytes o ≡ true) (q : RunningAt t o moved readable) where
-  pub read_is : work_fits c.setup c.queues.programs (Read o moved readable) ≡ true → ProgressAt t (Running (Read o moved readable))
+  pub read_is : work_fits c.setup c.queues.programs (Read o moved readable) ≡ true → ProgressAt t (Some (Read o moved readable))
   unfolding work_fits progress_at
   read_is f =
       let kind : o.kind ≡ 0 = eqb-true o.kind 0 (and_left (is_read o) _ f) in
@@ -414,7 +414,7 @@ module _ (c : Controller) {t : List ℕ} {o : Operation} {moved readable : ℕ} 
         encodes = running_encoded h (omega arith) q;
       }
 
-  pub program_is : work_fits c.setup c.queues.programs (Program o moved) ≡ true → ProgressAt t (Running (Program o moved))
+  pub program_is : work_fits c.setup c.queues.programs (Program o moved) ≡ true → ProgressAt t (Some (Program o moved))
   unfolding work_fits progress_at
   program_is f =
       let kind : o.kind ≡ 1 = eqb-true o.kind 1 (and_left (is_program o) _ f) in
@@ -423,7 +423,7 @@ module _ (c : Controller) {t : List ℕ} {o : Operation} {moved readable : ℕ} 
         encodes = running_encoded h (omega arith) q;
       }
 
-  pub erase_is : work_fits c.setup c.queues.programs (Erase o moved) ≡ true → ProgressAt t (Running (Erase o moved))
+  pub erase_is : work_fits c.setup c.queues.programs (Erase o moved) ≡ true → ProgressAt t (Some (Erase o moved))
   unfolding work_fits progress_at
   erase_is f =
       let kind = erase_kind o (and_left (is_page_erase o || is_bank_erase o) _ f) in
@@ -448,13 +448,13 @@ module _ (c : Controller) (t : List ℕ) (l : Long t) where
         on = later_reads c u (omega arith) q.on;
       }
 
-  pub idle_is : {u : List ℕ} → At u 98 0 → ProgressAt u Idle
+  pub idle_is : {u : List ℕ} → At u 98 0 → ProgressAt u None
   unfolding progress_at
   idle_is a = record { reads = rw a.is; encodes = rw a.is }
 
   pub progress_is : (r : Progress) → running_fits c.setup c.queues.programs r ≡ true → as_bytes r ≡ true → ProgressAt (put_from_reads (put_progress t r) c) r
   unfolding running_fits
-  progress_is Idle f h = idle_is (later_reads c (put_progress t Idle) (omega arith) (idle_put t l))
-  progress_is (Running (Read o moved readable)) f h = read_is c h (running_there _ o moved readable refl) f
-  progress_is (Running (Program o moved)) f h = program_is c h (running_there _ o moved (readable_kept t) refl) f
-  progress_is (Running (Erase o moved)) f h = erase_is c h (running_there _ o moved (readable_kept t) refl) f
+  progress_is None f h = idle_is (later_reads c (put_progress t None) (omega arith) (idle_put t l))
+  progress_is (Some (Read o moved readable)) f h = read_is c h (running_there _ o moved readable refl) f
+  progress_is (Some (Program o moved)) f h = program_is c h (running_there _ o moved (readable_kept t) refl) f
+  progress_is (Some (Erase o moved)) f h = erase_is c h (running_there _ o moved (readable_kept t) refl) f

@@ -1,5 +1,6 @@
 -- A state of which one part is changed, put into the numbers that encode the state: what is written is that part. Assumes
 -- nothing.
+use Rattle.std.specs.Prelude.{None, Some}
 use Prim.Native.Nat.{ℕ, zero, suc, ◌+◌, ◌*◌, ◌<◌, ◌≤◌}
 use native.Mathlib.Nat.{add-zero, not-suc-le-zero, le_of_suc-le-suc}
 use native.Mathlib.Omega.{arith}
@@ -22,8 +23,7 @@ use Rattle.model.specs.declared.Queue.{Queue}
 use Rattle.model.specs.declared.Queues.{Queues}
 use Rattle.model.specs.declared.Work.{Work}
 use Rattle.model.specs.declared.Work.TheVariants.{Read, Program, Erase}
-use Rattle.model.specs.declared.Progress.{Progress}
-use Rattle.model.specs.declared.Progress.TheVariants.{Idle, Running}
+use Rattle.model.specs.State.{Progress}
 use Rattle.model.specs.declared.Controller.{Controller}
 use Rattle.registers.specs.Registers.{is_flag, is_on, every, phase_number, encoded, stands_for, queue_at, work_at, progress_at, readable_kept, regions_of, info_of, region_at, setting_at, region_encoded}
 use Rattle.registers.specs.Registers.{setting_encoded, put_queue, no_progress, put_errors, put_progress, put_running, put_region, put_setting, put_erase, put_inputs, put_from_physical, put_from_errors, put_from_programs}
@@ -45,11 +45,11 @@ alike_cond true x y = x
 alike_cond false x y = y
 
 pub alike_progress : (s : List ℕ) (r : Progress) → Alike (put_progress s r) s 99
-alike_progress s Idle =
+alike_progress s None =
     alike_cond (is_on (get_or s 98 0)) (alike_sets 91 (0 ∷ 0 ∷ 0 ∷ 0 ∷ 0 ∷ 0 ∷ 0 ∷ 0 ∷ []) (omega arith) itself) itself
-alike_progress s (Running (Read o moved readable)) = alike_running o moved readable itself
-alike_progress s (Running (Program o moved)) = alike_running o moved _ itself
-alike_progress s (Running (Erase o moved)) = alike_running o moved _ itself
+alike_progress s (Some (Read o moved readable)) = alike_running o moved readable itself
+alike_progress s (Some (Program o moved)) = alike_running o moved _ itself
+alike_progress s (Some (Erase o moved)) = alike_running o moved _ itself
 
 -- ---- numbers before a queue and the queue, in either order
 
@@ -91,7 +91,7 @@ queue_moved t at q false k l = queue_set t at q 96 k (omega arith)
 
 -- ---- the operation in progress
 
-busy : (b : Bool) (w : Work) → is_busy (cond b (Running w) Idle) ≡ b
+busy : (b : Bool) (w : Work) → is_busy (cond b (Some w) None) ≡ b
 busy true w = refl
 busy false w = refl
 
@@ -229,16 +229,16 @@ module _ (s : List ℕ) (h : encoded s ≡ true) where
 
   -- ---- the operation in progress moves on
 
-  put_ended : (w : Work) → progress_at s ≡ Running w → put_progress s Idle ≡ no_progress s
+  put_ended : (w : Work) → progress_at s ≡ Some w → put_progress s None ≡ no_progress s
   unfolding progress_at
   put_ended w e =
       let on : is_on (get_or s 98 0) ≡ true = sym (busy (is_on (get_or s 98 0)) (work_at s)) ∙ ap is_busy e in
       rw on
 
-  kept : (w : Work) → progress_at s ≡ Running w → put_progress s (Running w) ≡ s
+  kept : (w : Work) → progress_at s ≡ Some w → put_progress s (Some w) ≡ s
   kept w e = ap (put_progress s) (sym e) ∙ progress_kept itself p.progress
 
-  put_more : (w : Work) (k : ℕ) → progress_at s ≡ Running w → put_progress s (Running (at_word w k)) ≡ set s 96 k
+  put_more : (w : Work) (k : ℕ) → progress_at s ≡ Some w → put_progress s (Some (at_word w k)) ≡ set s 96 k
   put_more (Read o moved readable) k e =
       sym (ap (λ (l : List ℕ). set l 96 k) (sym (kept (Read o moved readable) e)) ∙ one_more s o moved k readable)
   put_more (Program o moved) k e =
@@ -246,7 +246,7 @@ module _ (s : List ℕ) (h : encoded s ≡ true) where
   put_more (Erase o moved) k e =
       sym (ap (λ (l : List ℕ). set l 96 k) (sym (kept (Erase o moved) e)) ∙ one_more s o moved k (readable_kept s))
 
-  pub put_moved : (w : Work) (last : Bool) (k : ℕ) → progress_at s ≡ Running w → put_progress s (cond last Idle (Running (at_word w k))) ≡ moved_on s last k
+  pub put_moved : (w : Work) (last : Bool) (k : ℕ) → progress_at s ≡ Some w → put_progress s (cond last None (Some (at_word w k))) ≡ moved_on s last k
   put_moved w true k e = put_ended w e
   put_moved w false k e = put_more w k e
 

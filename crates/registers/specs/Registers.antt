@@ -1,5 +1,6 @@
 -- The registers, the state as the numbers that a caller lends: the controller that they stand for, and what putting a
 -- controller into them writes. (house)
+use Rattle.std.specs.Prelude.{None, Some}
 use Rattle.std.specs.Prelude.{ℕ, zero, suc, ◌+◌, ◌*◌, ◌/◌, ◌%◌, Bool, ◌&&◌, ◌||◌, not, cond, List, [], ◌∷◌, leb, eqb, get_or, set}
 use Rattle.std.proofs.lemmas.List.Edits.{sets}
 use Rattle.model.specs.Kinds.{is_read, is_program}
@@ -16,8 +17,7 @@ use Rattle.model.specs.declared.Settings.{Settings}
 use Rattle.model.specs.declared.Queue.{Queue}
 use Rattle.model.specs.declared.Work.{Work}
 use Rattle.model.specs.declared.Work.TheVariants.{Read, Program, Erase}
-use Rattle.model.specs.declared.Progress.{Progress}
-use Rattle.model.specs.declared.Progress.TheVariants.{Idle, Running}
+use Rattle.model.specs.State.{Progress}
 use Rattle.model.specs.declared.Inputs.{Inputs}
 use Rattle.model.specs.declared.Setup.{Setup}
 use Rattle.model.specs.declared.Physical.{Physical}
@@ -93,7 +93,7 @@ work_at s =
     (Erase (operation_at s) (get_or s moved_at 0)))
 
 unfoldable pub progress_at : List ℕ → Progress
-progress_at s = cond (is_on (get_or s running_at 0)) (Running (work_at s)) Idle
+progress_at s = cond (is_on (get_or s running_at 0)) (Some (work_at s)) None
 
 -- ---- the queues
 
@@ -212,10 +212,10 @@ abbrev pub readable_kept : List ℕ → ℕ
 readable_kept s = cond (is_on (get_or s running_at 0)) (get_or s readable_at 0) 0
 
 abbrev pub put_progress : List ℕ → Progress → List ℕ
-put_progress s Idle = cond (is_on (get_or s running_at 0)) (no_progress s) s
-put_progress s (Running (Read o moved readable)) = put_running s o moved readable
-put_progress s (Running (Program o moved)) = put_running s o moved (readable_kept s)
-put_progress s (Running (Erase o moved)) = put_running s o moved (readable_kept s)
+put_progress s None = cond (is_on (get_or s running_at 0)) (no_progress s) s
+put_progress s (Some (Read o moved readable)) = put_running s o moved readable
+put_progress s (Some (Program o moved)) = put_running s o moved (readable_kept s)
+put_progress s (Some (Erase o moved)) = put_running s o moved (readable_kept s)
 
 abbrev pub put_errors : List ℕ → Errors → List ℕ
 put_errors s e = set (set s recorded_at (mask_of e)) last_at e.address.0

@@ -178,13 +178,11 @@ fn work(s: &Registers) -> Work
     Work::Erase { op, moved }
 }
 
+#[tactic(auto, unfolding(crate::specs::Registers::progress_at))]
 pub fn progress(s: &Registers) -> Progress
     ensures { result ≡ progress_at s.now }
 {
-    if s[RUNNING] != 0 {
-        return Progress::Running(work(s));
-    }
-    Progress::Idle
+    if s[RUNNING] != 0 { Some(work(s)) } else { None }
 }
 
 // ---- the error record

@@ -1,4 +1,5 @@
 -- Whether the step of the registers would move a word, and the bank of that word. Assumes nothing.
+use Rattle.std.specs.Prelude.{Some}
 use Prim.Native.Nat.{ℕ, ◌≤◌, ◌<◌}
 use mathlib.Core.Path.{◌≡◌, ap, sym, subst, ◌∙◌}
 use mathlib.Core.Bool.{true, false}
@@ -13,7 +14,6 @@ use Rattle.model.specs.Valid.{valid, valid_with}
 use Rattle.model.specs.Rounds.{goes, would_move, progress_bank, next_bank, host_bank, competes}
 use Rattle.model.specs.declared.ByteAddress.{ByteAddress}
 use Rattle.model.specs.declared.Work.{Work}
-use Rattle.model.specs.declared.Progress.TheVariants.{Running}
 use Rattle.model.specs.declared.Controller.{Controller}
 use Rattle.model.proofs.Moving.{moving, with_valid}
 use Rattle.model.proofs.Accepting.{ready_valid}
@@ -67,11 +67,11 @@ module _ {s : List ℕ} (g : Going s) where
   pub going_encoded : encoded s ≡ true
   going_encoded = valid_encoded s (rw going_stands fits)
 
-  running : (stands_for s).progress ≡ Running (work_at s)
+  running : (stands_for s).progress ≡ Some (work_at s)
   unfolding stands_for progress_at
   running =
-      let e : (stands_for s).progress ≡ Running step_goes.work = subst (λ (c : Controller). c.progress ≡ Running step_goes.work) going_stands step_goes.running in
-      e ∙ ap (λ (w : Work). Running w) (sym (work_lies s step_goes.work e))
+      let e : (stands_for s).progress ≡ Some step_goes.work = subst (λ (c : Controller). c.progress ≡ Some step_goes.work) going_stands step_goes.running in
+      e ∙ ap (λ (w : Work). Some w) (sym (work_lies s step_goes.work e))
 
   abbrev d : ℕ
   d = get_or s pages_at 0

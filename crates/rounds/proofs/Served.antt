@@ -15,7 +15,7 @@ use Rattle.model.specs.Rounds.{lost_in, would_move, next_bank, host_served, host
 use Rattle.model.specs.declared.ByteAddress.{ByteAddress}
 use Rattle.model.specs.declared.HostTurn.{HostTurn}
 use Rattle.model.specs.declared.Turn.TheVariants.{Unasked}
-use Rattle.model.specs.declared.Answer.{Answer}
+use Rattle.model.specs.Refusals.{Answer}
 use Rattle.model.specs.declared.Controller.{Controller}
 use Rattle.model.proofs.Bool.{and_left}
 use Rattle.model.proofs.Rounds.{would_go, goes_accepted, step_leaves_alone}

@@ -5,7 +5,7 @@ use Rattle.model.specs.State.{Flash}
 use Rattle.model.specs.Refusals.{no_decider, number_of}
 use Rattle.model.specs.Rounds.{goes, would_move, next_bank}
 use Rattle.model.specs.declared.ByteAddress.{ByteAddress}
-use Rattle.model.specs.declared.Answer.{Answer}
+use Rattle.model.specs.Refusals.{Answer}
 use Rattle.registers.specs.Layout.{pages_at}
 use Rattle.registers.specs.Registers.{progress_at, stands_for, decode}
 use Rattle.calls.specs.Calls.{told_host_word}

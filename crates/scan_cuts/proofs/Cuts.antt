@@ -17,7 +17,7 @@ use Rattle.model.specs.Whole.{whole_answer, short_buffer}
 use Rattle.model.specs.declared.Operation.{Operation}
 use Rattle.model.specs.declared.Work.TheVariants.{Program, Erase}
 use Rattle.model.specs.declared.Controller.{Controller}
-use Rattle.model.specs.declared.Answer.TheVariants.{Accepted}
+use Rattle.model.specs.Refusals.{accepted}
 use Rattle.model.proofs.Free.{whole_fits}
 use Rattle.plans.specs.Plan.{programming, erasing}
 use Rattle.plans.proofs.Firsts.{stored_first}
@@ -59,7 +59,7 @@ module _ (c : Controller) (f : Flash) (free : accepts (whole_answer c f) ≡ tru
           ≡ run (take (min n (length ws)) (programs ws (page_word c.setup.pages p + k))) f.words
       unfolding total_words
       program_cut =
-          let ok : operation_answer c.setup (program_at p k (length ws)) ≡ Accepted = program_accepted c.setup p h k (length ws) some window inside in
+          let ok : operation_answer c.setup (program_at p k (length ws)) ≡ accepted = program_accepted c.setup p h k (length ws) some window inside in
           let goes : starts (program_at p k (length ws)) (operation_answer c.setup (program_at p k (length ws))) ≡ true = rw ok refl in
           ap (λ (g : Flash). g.words) (driven_program (program_at p k (length ws)) ws no_short goes refl refl)
           ∙ programmed_first c.setup.pages p k ws f (omega arith) (min n (length ws)) (omega arith)
@@ -68,7 +68,7 @@ module _ (c : Controller) (f : Flash) (free : accepts (whole_answer c f) ≡ tru
         ≡ run (take (min n 256) (erases 256 (page_word c.setup.pages p))) f.words
     unfolding total_words
     erase_cut b =
-        let ok : operation_answer c.setup (erase_at p) ≡ Accepted = erase_accepted c.setup p h in
+        let ok : operation_answer c.setup (erase_at p) ≡ accepted = erase_accepted c.setup p h in
         let goes : starts (erase_at p) (operation_answer c.setup (erase_at p)) ≡ true = rw ok refl in
         let room : short_buffer (erase_at p) b ≡ false = rw and-false refl in
         ap (λ (g : Flash). g.words) (driven_erase (erase_at p) b room goes refl refl)

@@ -8,7 +8,7 @@ use Rattle.model.specs.Rights.{ruling_at, leading, allowed_words, denied}
 use Rattle.model.specs.Checks.{malformed, out_of_range, crosses_window, operation_answer}
 use Rattle.model.specs.declared.Operation.{Operation}
 use Rattle.model.specs.declared.Setup.{Setup}
-use Rattle.model.specs.declared.Answer.TheVariants.{Accepted}
+use Rattle.model.specs.Refusals.{accepted}
 
 -- A program of n words from word k of page p on, and an erase of page p.
 abbrev pub program_at : ℕ → ℕ → ℕ → Operation
@@ -51,11 +51,11 @@ module _ (s : Setup) (p : ℕ) (h : Serves s p) where
         let word : (1024 * p + 4 * k) % 1024 / 4 ≡ k = omega arith in
         rw (one, page, word, h.rights) (le-ltb _ n (omega arith))
 
-    pub program_accepted : operation_answer s (program_at p k n) ≡ Accepted
+    pub program_accepted : operation_answer s (program_at p k n) ≡ accepted
     unfolding operation_answer
     program_accepted = rw (program_formed, program_there, program_inside, program_allowed) refl
 
-  pub erase_accepted : operation_answer s (erase_at p) ≡ Accepted
+  pub erase_accepted : operation_answer s (erase_at p) ≡ accepted
   unfolding operation_answer malformed out_of_range crosses_window denied allowed_words leading
   erase_accepted =
       let aligned : 1024 * p % 4 ≡ 0 = omega arith in

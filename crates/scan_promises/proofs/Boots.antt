@@ -1,4 +1,5 @@
 -- An uninitialised controller that is otherwise free is free once it is initialised, with the same setup. Assumes nothing.
+use Rattle.std.specs.Prelude.{None}
 use Prim.Native.Nat.{ℕ}
 use mathlib.Core.Path.{◌≡◌, refl, sym, ap, subst, ◌∙◌}
 use mathlib.Core.Bool.{Bool, true, false, cond, true≢false}
@@ -14,7 +15,6 @@ use Rattle.model.specs.Whole.{whole_answer}
 use Rattle.model.specs.declared.Inputs.{Inputs}
 use Rattle.model.specs.declared.Settings.{Settings}
 use Rattle.model.specs.declared.Phase.TheVariants as phase
-use Rattle.model.specs.declared.Progress.TheVariants.{Idle}
 use Rattle.model.specs.declared.Controller.{Controller}
 use Rattle.model.proofs.Bool.{and_left, and_right}
 use Rattle.promises.specs.Calls.{Call, State, Shaped, Reset, SetInputs, SetRegion, SetDefault, SetInfo, SetErase, Initialise, Start, Step, Push, Pop, Whole, HostRead, ViewPage, Clear, Rma, Round, perform, run}
@@ -26,7 +26,7 @@ pub record Waits (c : Controller) (g : Flash) : Type 0 where
   pub shape : Shaped c
   pub fits : valid c ≡ true
   pub phase : c.phase ≡ phase.Uninitialised
-  pub idle : c.progress ≡ Idle
+  pub idle : c.progress ≡ None
   pub reads : is_empty c.queues.reads ≡ true
   pub programs : is_empty c.queues.programs ≡ true
   pub flash : flash_fits c.setup.pages g ≡ true

@@ -22,7 +22,7 @@ use Rattle.model.specs.declared.Operation.{Operation}
 use Rattle.model.specs.declared.Setup.{Setup}
 use Rattle.model.specs.declared.Controller.{Controller}
 use Rattle.model.specs.declared.Outcome.{Outcome}
-use Rattle.model.specs.declared.Answer.TheVariants.{Accepted}
+use Rattle.model.specs.Refusals.{accepted}
 use Rattle.model.proofs.Answers.{ready_accepts}
 use Rattle.model.proofs.Flashes.{same_fits}
 use Rattle.model.proofs.Free.{Free, whole_free, whole_fits, free_start, free_again}
@@ -68,11 +68,11 @@ Runs S j ss = (n : ℕ) (s : List ℕ) (f : Flash) → Good S s f → RunsOn S j
 -- ---- an accepted operation
 
 module _ (n : ℕ) (s : List ℕ) (f : Flash) (o : Operation) (b : List ℕ) (free : accepts (whole_answer (decode s) f) ≡ true)
-    (room : short_buffer o b ≡ false) (ok : operation_answer (decode s).setup o ≡ Accepted) where
+    (room : short_buffer o b ≡ false) (ok : operation_answer (decode s).setup o ≡ accepted) where
   told_started : starts_by o (start_in s o).told.answer ≡ true
   unfolding start_in
   told_started =
-      let e : (start (decode s) o).answer ≡ Accepted = ap (λ (x : Outcome). x.answer) (free_start (decode s) o (whole_free (decode s) f free)) ∙ ok in
+      let e : (start (decode s) o).answer ≡ accepted = ap (λ (x : Outcome). x.answer) (free_start (decode s) o (whole_free (decode s) f free)) ∙ ok in
       rw e refl
 
   moved : driven_in n s f o b
@@ -138,7 +138,7 @@ module _ (S : Setup) (p : ℕ) (h : Serves S p) where
     unfolding total_words
     program_runs ss is size n s f g =
         let here = serves_here s f g in
-        let ok : operation_answer (decode s).setup (program_at p k (length ws)) ≡ Accepted = program_accepted (decode s).setup p here k (length ws) some window inside in
+        let ok : operation_answer (decode s).setup (program_at p k (length ws)) ≡ accepted = program_accepted (decode s).setup p here k (length ws) some window inside in
         let room : short_buffer (program_at p k (length ws)) ws ≡ false = rw (le-ltb (length ws) (length ws) (omega arith), and-false) refl in
         let led = drives_as n s f (program_at p k (length ws)) ws g.long (omega arith) in
         let d : (decode s).setup.pages ≡ S.pages = ap (λ (x : Setup). x.pages) g.setup in
@@ -171,7 +171,7 @@ module _ (S : Setup) (p : ℕ) (h : Serves S p) where
   unfolding total_words
   erase_runs b ss is size n s f g =
       let here = serves_here s f g in
-      let ok : operation_answer (decode s).setup (erase_at p) ≡ Accepted = erase_accepted (decode s).setup p here in
+      let ok : operation_answer (decode s).setup (erase_at p) ≡ accepted = erase_accepted (decode s).setup p here in
       let room : short_buffer (erase_at p) b ≡ false = rw and-false refl in
       let led = drives_as n s f (erase_at p) b g.long (omega arith) in
       let d : (decode s).setup.pages ≡ S.pages = ap (λ (x : Setup). x.pages) g.setup in

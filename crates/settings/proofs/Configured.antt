@@ -12,7 +12,7 @@ use Rattle.model.specs.Valid.{rights_fit, region_fits, page_fits}
 use Rattle.model.specs.Settings.{setting_answer, configured, with_region, set_region, with_default, set_default, with_page, info_exists, set_info, with_erase, set_erase}
 use Rattle.model.specs.declared.Region.{Region}
 use Rattle.model.specs.declared.PageSetting.{PageSetting}
-use Rattle.model.specs.declared.Answer.{Answer}
+use Rattle.model.specs.Refusals.{Answer}
 use Rattle.registers.specs.Layout.{pages_at, default_at}
 use Rattle.registers.specs.Registers.{stands_for, decode, put_region, put_setting, put_erase}
 use Rattle.calls.specs.Calls.{set_region_in, set_default_in, set_info_in, set_erase_in}

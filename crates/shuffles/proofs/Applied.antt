@@ -25,7 +25,7 @@ use Rattle.model.specs.Bench.{blank, ready, region, op}
 use Rattle.model.specs.declared.ImagePage.{ImagePage}
 use Rattle.model.specs.declared.BusWord.{BusWord}
 use Rattle.model.specs.declared.Errors.{Errors}
-use Rattle.model.specs.declared.Answer.TheVariants.{Malformed, Denied}
+use Rattle.model.specs.declared.Refusal.TheVariants.{Malformed, Denied}
 use Rattle.model.specs.declared.Decider.TheVariants.{Region}
 use Rattle.plans.specs.Plan.{Recorded, Reads, places_of, plan_of, delivered_at, performed}
 use Rattle.shuffles.specs.Shuffle.{Job, State, Given, after, given, end_of, Shuffle, done, left, right, has_one, reads_page, changes_page, touches_page, plan_at, along, changes, Apart, Commutes}

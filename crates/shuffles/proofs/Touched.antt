@@ -24,7 +24,7 @@ use Rattle.model.specs.declared.BusWord.{BusWord}
 use Rattle.model.specs.declared.Operation.{Operation}
 use Rattle.model.specs.declared.Setup.{Setup}
 use Rattle.model.specs.declared.Controller.{Controller}
-use Rattle.model.specs.declared.Answer.{Answer}
+use Rattle.model.specs.Refusals.{Answer}
 use Rattle.model.proofs.Bool.{and_left, and_right, by_test}
 use Rattle.model.proofs.Answers.{accepts_not, unrecorded_undenied, denied_if_told}
 use Rattle.model.proofs.DeniedReads.{readable_before, readable_le}

@@ -17,7 +17,7 @@ use Rattle.model.specs.declared.Queues.{Queues}
 use Rattle.model.specs.declared.Operation.{Operation}
 use Rattle.model.specs.declared.Setup.{Setup}
 use Rattle.model.specs.declared.Controller.{Controller}
-use Rattle.model.specs.declared.Answer.{Answer}
+use Rattle.model.specs.Refusals.{Answer}
 use Rattle.model.proofs.Bool.{and_left, and_right, or_left, or_right, by_test}
 use Rattle.model.proofs.Flashes.{same_fits}
 use Rattle.model.proofs.Valid.{valid_parts}

@@ -11,7 +11,7 @@ use Rattle.model.specs.Places.{span_start, span_words}
 use Rattle.model.specs.Refusals.{check}
 use Rattle.model.specs.Checks.{malformed, crosses_window}
 use Rattle.model.specs.Rights.{ruling_at, leading, page_grants, allowed_words, denied, decider_of}
-use Rattle.model.specs.declared.Answer.TheVariants.{Denied}
+use Rattle.model.specs.declared.Refusal.TheVariants.{Denied}
 use Rattle.model.specs.declared.Page.{Page}
 use Rattle.model.specs.declared.Operation.{Operation}
 use Rattle.model.specs.declared.Setup.{Setup}

@@ -1,4 +1,5 @@
 -- What a step leaves, by the tests that it makes, and what a step that moves a word may count on. Assumes nothing.
+use Rattle.std.specs.Prelude.{None, Some}
 use Prim.Native.Nat.{ℕ, ◌+◌, ◌<◌, ◌≤◌}
 use native.Mathlib.Omega.{arith}
 use mathlib.Core.Path.{◌≡◌, refl, ap, sym, subst, ◌∙◌}
@@ -15,15 +16,15 @@ use Rattle.model.specs.Valid.{valid, valid_with}
 use Rattle.model.specs.Places.{total_words, place_of}
 use Rattle.model.specs.Checks.{out_of_range}
 use Rattle.model.specs.Steps.{progressed, advance, counted_bits, read_word, step, stalls}
-use Rattle.model.specs.declared.Answer.{Answer}
-use Rattle.model.specs.declared.Answer.TheVariants.{Accepted, Unexpected}
+use Rattle.model.specs.Refusals.{Answer}
+use Rattle.model.specs.Refusals.{accepted}
+use Rattle.model.specs.declared.Refusal.TheVariants.{Unexpected}
 use Rattle.model.specs.declared.Stepped.{Stepped}
 use Rattle.model.specs.declared.Movement.TheVariants.{Moved, Finished}
 use Rattle.model.specs.declared.Work.{Work}
 use Rattle.model.specs.declared.Work.TheVariants.{Read, Program, Erase}
 use Rattle.model.specs.declared.Operation.{Operation}
 use Rattle.model.specs.declared.BusWord.{BusWord}
-use Rattle.model.specs.declared.Progress.TheVariants.{Idle, Running}
 use Rattle.model.specs.declared.Queue.{Queue}
 use Rattle.model.specs.declared.Controller.{Controller}
 use Rattle.model.proofs.Moving.{Moving, moving, with_valid, with_length, queue_bounds}
@@ -43,7 +44,7 @@ use Rattle.steps.specs.Stepping.{Moves, told_moved, registers_moved}
 pub same_moves : {s : List ℕ} {f : Flash} {v w : Work} → v ≡ w → Moves s f v → Moves s f w
 same_moves e m = rw e at m
 
-told_moved_lem : (b : Bool) → movement_number (cond b Finished Moved) ≡ cond b 2 1
+told_moved_lem : (b : Bool) → movement_number (Some (cond b Finished Moved)) ≡ cond b 2 1
 told_moved_lem true = refl
 told_moved_lem false = refl
 
@@ -167,20 +168,20 @@ module _ (s : List ℕ) (f : Flash) where
     by_step e = ap (step_left s) (e ∙ ap (λ (c : Controller). step c f) (sym same))
 
     -- nothing is in progress,
-    pub step_nothing : progress_at s ≡ Idle → still Unexpected 0 ≡ step_in s f
+    pub step_nothing : progress_at s ≡ None → still Unexpected 0 ≡ step_in s f
     unfolding stands_for
     step_nothing e = by_step (step_idle (stands_for s) f ready e)
 
     -- or an operation that waits,
-    pub step_waits : (w : Work) → progress_at s ≡ Running w → stalls (stands_for s).queues w ≡ true → still Accepted 3 ≡ step_in s f
+    pub step_waits : (w : Work) → progress_at s ≡ Some w → stalls (stands_for s).queues w ≡ true → still accepted 3 ≡ step_in s f
     unfolding stands_for
     step_waits w e t =
-        ap {B = LeftFlash ToldStep} (λ (l : List ℕ). record { told = record { answer = number_of Accepted; movement = 3; bits = 0 }; registers = l; flash = f })
+        ap {B = LeftFlash ToldStep} (λ (l : List ℕ). record { told = record { answer = number_of accepted; movement = 3; bits = 0 }; registers = l; flash = f })
         (sym (put_back s (valid_encoded s taken)))
         ∙ by_step (step_stalled (stands_for s) f w ready e t)
 
     -- or one that moves a word.
-    module _ (w : Work) (e : progress_at s ≡ Running w) (t : stalls (stands_for s).queues w ≡ false) where
+    module _ (w : Work) (e : progress_at s ≡ Some w) (t : stalls (stands_for s).queues w ≡ false) where
       pub step_moves : Moves s f w
       unfolding stands_for
       step_moves = record {

@@ -1,10 +1,10 @@
 -- A word moves: what is told and left, and when it can. (house)
+use Rattle.std.specs.Prelude.{Some}
 use Rattle.std.specs.Prelude.{ℕ, ◌+◌, ◌≡◌, true, false, cond, List, eqb, set}
 use Rattle.model.specs.State.{Flash}
 use Rattle.model.specs.Valid.{valid_with}
 use Rattle.model.specs.Steps.{stalls}
 use Rattle.model.specs.declared.Work.{Work}
-use Rattle.model.specs.declared.Progress.TheVariants.{Running}
 use Rattle.registers.specs.Layout.{moved_at}
 use Rattle.registers.specs.Registers.{encoded, stands_for, no_progress}
 use Rattle.calls.specs.declared.ToldStep.{ToldStep}
@@ -20,5 +20,5 @@ registers_moved s n k = cond (eqb (k + 1) n) (no_progress s) (set s moved_at (k 
 pub record Moves (s : List ℕ) (f : Flash) (w : Work) : Type 0 where
   pub encodes : encoded s ≡ true
   pub valid : valid_with (stands_for s) f ≡ true
-  pub running : (stands_for s).progress ≡ Running w
+  pub running : (stands_for s).progress ≡ Some w
   pub goes : stalls (stands_for s).queues w ≡ false

@@ -16,8 +16,9 @@ use Rattle.model.specs.declared.BusWord.{BusWord}
 use Rattle.model.specs.declared.Errors.{Errors}
 use Rattle.model.specs.declared.Operation.{Operation}
 use Rattle.model.specs.declared.Controller.{Controller}
-use Rattle.model.specs.declared.Answer.{Answer}
-use Rattle.model.specs.declared.Answer.TheVariants.{Accepted, Busy, ShortBuffer}
+use Rattle.model.specs.Refusals.{Answer}
+use Rattle.model.specs.Refusals.{accepted}
+use Rattle.model.specs.declared.Refusal.TheVariants.{Busy, ShortBuffer}
 use Rattle.model.proofs.Answers.{recorded_if_refused, both_accept}
 use Rattle.model.proofs.Moving.{with_valid}
 use Rattle.model.proofs.Accepting.{ready_valid}
@@ -105,18 +106,18 @@ module _ (s : List ℕ) (f : Flash) (o : Operation) (b : List ℕ) (h : encoded 
   -- A read empties the read queue, a program the program queue, an erase neither.
   pub left_read : (readable : ℕ) (ps : List BusWord)
       → record {
-        told = told_bits Accepted 0;
+        told = told_bits accepted 0;
         registers = put_queue s reads_from empty_queue;
         flash = f;
         buffer = delivered_at f readable 0 ps ++ drop (length ps) b;
       }
-      ≡ whole_left s (performed (stands_for s) f o b (Reads Accepted readable ps))
+      ≡ whole_left s (performed (stands_for s) f o b (Reads accepted readable ps))
   unfolding performed recorded
   left_read readable ps = rw (put_reads s h empty_queue empty_places)
 
   pub left_program : (ps : List BusWord)
       → record {
-        told = told_bits Accepted (changed_all (setup_of s) (programming b) 0 ps f);
+        told = told_bits accepted (changed_all (setup_of s) (programming b) 0 ps f);
         registers = put_queue s programs_from empty_queue;
         flash = stored_all (programming b) 0 ps f;
         buffer = b;
@@ -127,7 +128,7 @@ module _ (s : List ℕ) (f : Flash) (o : Operation) (b : List ℕ) (h : encoded 
 
   pub left_erase : (ps : List BusWord)
       → record {
-        told = told_bits Accepted (changed_all (setup_of s) erasing 0 ps f);
+        told = told_bits accepted (changed_all (setup_of s) erasing 0 ps f);
         registers = s;
         flash = stored_all erasing 0 ps f;
         buffer = b;

@@ -3,7 +3,7 @@ use mathlib.Core.Path.{◌≡◌, refl, sym, ◌∙◌}
 use mathlib.Core.Bool.{true, false}
 use lib.ListN.{get_or}
 use Rattle.model.specs.Checks.{malformed, out_of_range, operation_answer}
-use Rattle.model.specs.declared.Answer.TheVariants.{Malformed}
+use Rattle.model.specs.declared.Refusal.TheVariants.{Malformed}
 use Rattle.model.proofs.Answers.{check_passed}
 use Rattle.registers.specs.Layout.{pages_at}
 use Rattle.registers.specs.Registers.{stands_for}
@@ -12,7 +12,7 @@ use Rattle.answers.proofs.operation_answer.Tie as tie
 
 -- What passed check 5 is well formed.
 formed : (d : tie.After-accepts) → d.accepts.result ≡ true → malformed d.before.before.before.args.o ≡ false
-formed d h = check_passed _ Malformed refl (rw d.before.form_answer-form.ensures at (sym d.accepts.ensures ∙ h))
+formed d h = check_passed _ Malformed (rw d.before.form_answer-form.ensures at (sym d.accepts.ensures ∙ h))
 
 -- What the test for check 7 answered.
 outside : (d : tie.After-out_of_range) →

@@ -4,7 +4,7 @@ use mathlib.Core.Bool.{true, false, ◌&&◌}
 use lib.ListN.{get_or}
 use Rattle.model.specs.Kinds.{is_program}
 use Rattle.model.specs.Checks.{malformed, out_of_range, operation_answer}
-use Rattle.model.specs.declared.Answer.TheVariants.{Malformed}
+use Rattle.model.specs.declared.Refusal.TheVariants.{Malformed}
 use Rattle.model.proofs.Answers.{check_passed}
 use Rattle.model.proofs.Bool.{and_left, and_right}
 use Rattle.registers.specs.Layout.{pages_at}
@@ -21,7 +21,7 @@ asked : (d : tie.After-accepts-formed) → (d.before.before.is_program-program.r
 asked d h =
     let p = d.before.before.is_program-program in
     let f = d.accepts-formed in
-    (sym p.ensures ∙ and_left p.result f.result h, check_passed _ Malformed refl (rw d.before.form_answer.ensures at (sym f.ensures ∙ and_right p.result f.result h)))
+    (sym p.ensures ∙ and_left p.result f.result h, check_passed _ Malformed (rw d.before.form_answer.ensures at (sym f.ensures ∙ and_right p.result f.result h)))
 
 -- What the test for its range answered.
 outside : (d : tie.After-out_of_range) →

@@ -1,8 +1,8 @@
 -- `queueing::push` meets its contract. Assumes nothing.
+use Rattle.std.specs.Prelude.{Some}
 use mathlib.Core.Path.{sym, ap, ◌∙◌}
 use borrow.Author.Tests.{leb-false}
 use borrow.Author.Rules.{rules}
-use Rattle.model.specs.declared.Progress.TheVariants.{Running}
 use Rattle.queueing.proofs.Pushed.{push_early, push_idle, push_other, push_all, push_full, push_joins}
 use Rattle.queueing.proofs.push.Statement.{statement}
 use Rattle.queueing.proofs.push.Tie as tie
@@ -31,21 +31,21 @@ push_spec =
     push_other c.args.s.now c.args.word c.ready-ready.result
     c.ready-ready.ensures
     (sym c.accepts.ensures ∙ c.if-not-accepts.false)
-    c.in-Running.work (sym c.progress-progress.ensures ∙ c.in-Running.is) c.in_default-work.not-Program)
+    c.in-Some.work (sym c.progress-progress.ensures ∙ c.in-Some.is) c.in_default-work.not-Program)
     (λ c κs. tt)
     (λ c κs. tt)
     (λ c.
     push_all c.args.s.now c.args.word c.ready-ready.result
     c.ready-ready.ensures
     (sym c.accepts.ensures ∙ c.if-not-accepts.false)
-    _ _ (sym c.progress-progress.ensures ∙ c.in-Running.is ∙ ap Running c.in-Program.is)
+    _ _ (sym c.progress-progress.ensures ∙ c.in-Some.is ∙ ap Some c.in-Program.is)
     (rw c.programs-programs.ensures at (sym c.pushed_all.ensures ∙ c.if-pushed_all.true)))
     (λ c κs. tt)
     (λ c.
     push_full c.args.s.now c.args.word c.ready-ready.result
     c.ready-ready.ensures
     (sym c.accepts.ensures ∙ c.if-not-accepts.false)
-    _ _ (sym c.progress-progress.ensures ∙ c.in-Running.is ∙ ap Running c.in-Program.is)
+    _ _ (sym c.progress-progress.ensures ∙ c.in-Some.is ∙ ap Some c.in-Program.is)
     (rw c.programs-programs.ensures at (sym c.pushed_all.ensures ∙ c.if-pushed_all.false))
     (rw c.programs-programs.ensures at (sym c.is_full.ensures ∙ c.if-is_full.true)))
     (λ c κs. leb-false 16 _ (sym c.is_full.ensures ∙ c.if-is_full.false))
@@ -55,6 +55,6 @@ push_spec =
     (push_joins c.args.s.now c.args.word c.ready-ready.result
     c.ready-ready.ensures
     (sym c.accepts.ensures ∙ c.if-not-accepts.false)
-    _ _ (sym c.progress-progress.ensures ∙ c.in-Running.is ∙ ap Running c.in-Program.is)
+    _ _ (sym c.progress-progress.ensures ∙ c.in-Some.is ∙ ap Some c.in-Program.is)
     (rw c.programs-programs.ensures at (sym c.pushed_all.ensures ∙ c.if-pushed_all.false))
     (rw c.programs-programs.ensures at (sym c.is_full.ensures ∙ c.if-is_full.false)))))

@@ -15,4 +15,4 @@ would_move_spec =
     (λ c. rw (sym c.progress-progress.ensures ∙ c.in_default.is))
     (λ c κs. tt)
     (λ c.
-    ap not c.stalls-waits.ensures ∙ ap (goes _) (sym c.in-Running.is ∙ c.progress-progress.ensures)))
+    ap not c.stalls-waits.ensures ∙ ap (goes _) (sym c.in-Some.is ∙ c.progress-progress.ensures)))

@@ -18,13 +18,13 @@ ready_step_spec =
     (λ c κs. tt)
     (λ c.
     rw c.still-then-stalls.ensures
-    (step_waits _ _ c.requires _ (sym c.progress-progress.ensures ∙ c.in-Running.is)
+    (step_waits _ _ c.requires _ (sym c.progress-progress.ensures ∙ c.in-Some.is)
     (sym c.stalls.ensures ∙ c.if-stalls.true)))
     (λ c κs.
-    step_moves _ _ c.requires _ (sym c.progress-progress.ensures ∙ c.in-Running.is)
+    step_moves _ _ c.requires _ (sym c.progress-progress.ensures ∙ c.in-Some.is)
     (sym c.stalls.ensures ∙ c.if-stalls.false))
     (λ c. search rules)
     (λ c.
     rw c.advance.ensures
-    (step_goes _ _ c.requires _ (sym c.progress-progress.ensures ∙ c.in-Running.is)
+    (step_goes _ _ c.requires _ (sym c.progress-progress.ensures ∙ c.in-Some.is)
     (sym c.stalls.ensures ∙ c.if-stalls.false))))

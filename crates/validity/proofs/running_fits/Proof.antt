@@ -13,5 +13,5 @@ running_fits_spec =
     (λ c κs. tt)
     (λ c. search rules)
     (λ c κs. tt)
-    (λ c. rw (c.program_count.ensures, c.in-Idle.is))
-    (λ c. rw (c.work_fits.ensures, c.in-Running.is)))
+    (λ c. rw (c.program_count.ensures, c.in-None.is))
+    (λ c. rw (c.work_fits.ensures, c.in-Some.is)))
