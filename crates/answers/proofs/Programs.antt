@@ -4,7 +4,7 @@ use mathlib.Core.Bool.{Bool, true, false, ◌&&◌, not}
 use Rattle.model.specs.Kinds.{is_program}
 use Rattle.model.specs.Refusals.{accepts, check}
 use Rattle.model.specs.Checks.{malformed, operation_answer}
-use Rattle.model.specs.Refusals.{Answer}
+use Rattle.model.specs.declared.Refusal.{Refusal}
 use Rattle.model.specs.declared.Refusal.TheVariants.{Malformed}
 use Rattle.model.specs.declared.Operation.{Operation}
 use Rattle.model.specs.declared.Setup.{Setup}
@@ -18,6 +18,6 @@ form_refused s o h =
     (λ p. let f : accepts (check (malformed o) Malformed) ≡ false = rw p at h in rw (p, f) (sym f))
     (λ p. rw p)
 
-pub by_grant : (g : Bool) (a : Answer) → accepts a ≡ false → g ≡ accepts (check (not g) a)
-by_grant true a e = refl
-by_grant false a e = sym e
+pub by_grant : (g : Bool) (r : Refusal) → g ≡ accepts (check (not g) r)
+by_grant true r = refl
+by_grant false r = refl

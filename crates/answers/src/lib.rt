@@ -10,24 +10,18 @@ ghost use Rattle.model.specs.Errors.{error_address, recorded};
 ghost use Rattle.registers.specs.Registers.{errors_at, stands_for};
 ghost use Rattle.answers.specs.Answered.{Answered};
 
-use model::{Answer, ByteAddress, Errors, Operation};
+use model::{Answer, ByteAddress, Errors, Operation, Refusal};
 use registers::Registers;
 
 // Checks 5, 7, 8 and 9. Only an operation that passes check 5 has a span to look at.
+#[tactic(auto, using(model::proofs::Answers::check_passed), unfolding(model::specs::Checks::operation_answer, registers::specs::Registers::stands_for))]
 pub fn operation_answer(s: &Registers, o: Operation) -> Answer
     ensures { result ≡ operation_answer (stands_for s.now).setup o }
 {
     let d = registers::pages(s);
-    let form = checks::form_answer(o);
-    if !refusals::accepts(form) {
-        return form;
-    }
-    if checks::out_of_range(d, o) {
-        return Answer::OutOfRange;
-    }
-    if checks::crosses_window(o) {
-        return Answer::CrossesWindow;
-    }
+    checks::form_answer(o)?;
+    refusals::check(checks::out_of_range(d, o), Refusal::OutOfRange)?;
+    refusals::check(checks::crosses_window(o), Refusal::CrossesWindow)?;
     spans::right_answer(s, o)
 }
 

@@ -6,7 +6,7 @@ ghost use Rattle.model.specs.Kinds.{no_partition};
 ghost use Rattle.model.specs.Checks.{unaligned, bad_count, malformed, past_data, span_limit, out_of_range, crosses_window};
 ghost use Rattle.model.specs.Refusals.{check};
 
-use model::{Answer, ByteAddress, MAX_COUNT, Operation, WIDE_PAGE_BYTES};
+use model::{Answer, ByteAddress, MAX_COUNT, Operation, Refusal, WIDE_PAGE_BYTES};
 
 pub fn unaligned(a: ByteAddress) -> bool
     ensures { result ≡ unaligned a }
@@ -30,7 +30,7 @@ fn bad_count(o: Operation) -> bool
 
 // Check 5: a kind from 4 on is no kind.
 pub fn form_answer(o: Operation) -> Answer
-    ensures { result ≡ check (malformed o) Answer.Malformed }
+    ensures { result ≡ check (malformed o) Refusal.Malformed }
 {
     let address = o.address;
     let partition = no_partition(o);
@@ -38,12 +38,13 @@ pub fn form_answer(o: Operation) -> Answer
     let place = unaligned(address);
     let count = bad_count(o);
     let kind = o.kind;
-    match kind {
-        0 | 1 => refusals::check(partition | (typed | (place | count)), Answer::Malformed),
-        2 => refusals::check(partition | (typed | place), Answer::Malformed),
-        3 => refusals::check(partition | place, Answer::Malformed),
-        4..=255 => Answer::Malformed,
-    }
+    let malformed = match kind {
+        0 | 1 => partition | (typed | (place | count)),
+        2 => partition | (typed | place),
+        3 => partition | place,
+        4..=255 => true,
+    };
+    refusals::check(malformed, Refusal::Malformed)
 }
 
 // Whether an address lies at or past the end of the data pages.

@@ -1,11 +1,13 @@
 -- What a call that sets a part leaves, by the tests that it makes; and what clearing leaves. Assumes nothing.
+use Rattle.std.specs.Prelude.{Ok, Err}
 use Prim.Native.Nat.{ℕ}
 use mathlib.Core.Path.{◌≡◌, refl, ap, sym, ◌∙◌}
 use mathlib.Core.Bool.{Bool, true, false, not}
 use mathlib.Core.List.{List}
 use Rattle.model.specs.State.{is_busy, with_inputs, with_errors, no_errors}
 use Rattle.model.specs.Valid.{valid}
-use Rattle.model.specs.Refusals.{number_of, accepts, check, or_else, settle}
+use Rattle.model.specs.Refusals.{refusal_number, number_of, accepted, accepts, check, or_else, settle}
+use Rattle.model.specs.declared.Refusal.{Refusal}
 use Rattle.model.specs.Settings.{setting_answer, set_inputs}
 use Rattle.model.specs.Errors.{clear}
 use Rattle.model.specs.declared.Inputs.{Inputs}
@@ -15,7 +17,7 @@ use Rattle.model.specs.declared.Refusal.TheVariants.{Invalid, Busy, BadSetting}
 use Rattle.registers.specs.Registers.{encoded, stands_for, decode, progress_at, put, put_inputs, put_errors}
 use Rattle.calls.specs.Calls.{Left, outcome_left, set_inputs_in, clear_in}
 use Rattle.model.proofs.Bool.{by_test}
-use Rattle.model.proofs.Answers.{both_accept, check_passed}
+use Rattle.model.proofs.Answers.{accepted_is, refused_first, both_accept, check_passed}
 use Rattle.model.proofs.Accepting.{setting_passed}
 use Rattle.registers.proofs.Kept.{valid_encoded}
 use Rattle.registers.proofs.Written.{put_inputs_lem, put_errors_lem}
@@ -24,7 +26,7 @@ use borrow.Author.Tests.{not-false, eqb-true}
 
 -- ---- checks 1, 4 and 13
 
-pub answer_invalid : (s : List ℕ) (fits : Bool) → valid (decode s) ≡ false → Invalid ≡ setting_answer (decode s) fits
+pub answer_invalid : (s : List ℕ) (fits : Bool) → valid (decode s) ≡ false → Err Invalid ≡ setting_answer (decode s) fits
 answer_invalid s fits h = rw h
 
 pub answer_valid : (s : List ℕ) (fits : Bool) → valid (decode s) ≡ true
@@ -33,14 +35,18 @@ unfolding stands_for
 answer_valid s fits h =
     rw h (ap (λ (c : Controller). or_else (check (is_busy c.progress) Busy) (check (not fits) BadSetting)) (sym (taken_stands s h)))
 
+pub answer_busy : (s : List ℕ) (fits : Bool) {e : Refusal} → valid (decode s) ≡ true → Err e ≡ check (is_busy (progress_at s)) Busy
+    → Err e ≡ setting_answer (decode s) fits
+answer_busy s fits h w = refused_first _ (sym w) ∙ answer_valid s fits h
+
 -- ---- a part that the checks guard
 
 -- What is told and left, where the code tests the answer `a`: refused, the registers are as they were; accepted, the part fits
 -- and they are `t`.
 pub record Set (s : List ℕ) (fits : Bool) (a : Answer) (t : List ℕ) (left : Left ℕ) : Type 0 where
-  pub refused : {b : Bool} {n : ℕ} → n ≡ number_of a → b ≡ accepts a → b ≡ false → record { told = n; registers = s } ≡ left
-  pub passed : {b : Bool} → b ≡ accepts a → b ≡ true → fits ≡ true
-  pub accepted : {b : Bool} {u : List ℕ} → u ≡ t → b ≡ accepts a → b ≡ true → record { told = 0; registers = u } ≡ left
+  pub refused : {e : Refusal} → a ≡ Err e → record { told = refusal_number e; registers = s } ≡ left
+  pub passed : a ≡ accepted → fits ≡ true
+  pub kept : {u : List ℕ} → u ≡ t → a ≡ accepted → record { told = 0; registers = u } ≡ left
 
 -- Whether the part fits is asked of what the registers stand for: it matters in a valid state only.
 module _ (s : List ℕ) (next : Controller → Controller) (fits : Controller → Bool) (a : Answer) (told : a ≡ setting_answer (decode s) (fits (stands_for s))) where
@@ -69,16 +75,16 @@ module _ (s : List ℕ) (next : Controller → Controller) (fits : Controller �
   left_accepted t written granted =
       let h = taken granted in
       let e = rw same at granted in
-      let zero : number_of (setting_answer (decode s) (fits (decode s))) ≡ 0 = eqb-true _ _ e in
+      let zero : setting_answer (decode s) (fits (decode s)) ≡ accepted = accepted_is _ e in
       let w : put s (next (decode s)) ≡ t =
       ap (λ (c : Controller). put s (next c)) (taken_stands s h) ∙ written (fits_taken granted) (valid_encoded s h) in
       rw (e, w, zero)
 
   pub setting : (t : List ℕ) → (fits (stands_for s) ≡ true → encoded s ≡ true → put s (next (stands_for s)) ≡ t) → Set s (fits (stands_for s)) a t asked
   setting t written = record {
-    refused = λ n b l. rw n (left_refused (sym b ∙ l));
-    passed = λ b l. fits_taken (sym b ∙ l);
-    accepted = λ u b l. rw u (left_accepted t written (sym b ∙ l));
+    refused = λ w. rw w at (left_refused (rw w));
+    passed = λ w. fits_taken (rw w);
+    kept = λ u w. rw u (left_accepted t written (rw w));
   }
 
 -- ---- the inputs
@@ -86,6 +92,13 @@ module _ (s : List ℕ) (next : Controller → Controller) (fits : Controller �
 pub inputs_set : (s : List ℕ) (i : Inputs) (a : Answer) → a ≡ setting_answer (decode s) true → Set s true a (put_inputs s i) (set_inputs_in s i)
 unfolding set_inputs_in set_inputs
 inputs_set s i a told = setting s (λ c. with_inputs c i) (λ c. true) a told (put_inputs s i) (λ f h. put_inputs_lem s h i)
+
+module _ (s : List ℕ) (i : Inputs) (a : Answer) (told : a ≡ setting_answer (decode s) true) where
+  pub inputs_refused : {e : Refusal} → a ≡ Err e → record { told = refusal_number e; registers = s } ≡ set_inputs_in s i
+  inputs_refused w = (inputs_set s i a told).refused w
+
+  pub inputs_kept : a ≡ accepted → record { told = 0; registers = put_inputs s i } ≡ set_inputs_in s i
+  inputs_kept w = (inputs_set s i a told).kept refl w
 
 -- ---- clearing the error record: check 1 alone
 

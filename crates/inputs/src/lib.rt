@@ -2,45 +2,42 @@
 #![tactic(auto)]
 
 ghost use Rattle.std.specs.Prelude.{◌≡◌};
+ghost use Rattle.model.specs.Refusals.{number_of};
 ghost use Rattle.model.specs.Settings.{setting_answer};
 ghost use Rattle.registers.specs.Registers.{decode};
 ghost use Rattle.calls.specs.Calls.{set_inputs_in, clear_in};
 
-use model::{Answer, Inputs};
+use model::{Answer, Inputs, Refusal};
 use registers::Registers;
 
 // Checks 1, 4 and 13, in this order: what is in progress is looked at in a valid state only.
+#[tactic(auto, using(model::proofs::Answers::check_passed, crate::proofs::Configured::answer_valid, crate::proofs::Configured::answer_busy))]
 pub fn setting_answer(s: &Registers, fits: bool) -> Answer
     ensures { result ≡ setting_answer (decode s.now) fits }
 {
-    if !validity::valid(s) {
-        return Answer::Invalid;
-    }
-    let progress = registers::progress(s);
-    let busy = refusals::check(refusals::is_busy(progress), Answer::Busy);
-    let bad = refusals::check(!fits, Answer::BadSetting);
-    refusals::or_else(busy, bad)
+    refusals::check(!validity::valid(s), Refusal::Invalid)?;
+    refusals::check(registers::progress(s).is_some(), Refusal::Busy)?;
+    refusals::check(!fits, Refusal::BadSetting)
 }
 
 // The life-cycle inputs: provision enable, and seeds locked. They are no setting.
-pub fn set_inputs(s: &mut Registers, inputs: Inputs) -> u32
-    ensures { record { told = result; registers = s.new } ≡ set_inputs_in s.old inputs }
+#[tactic(auto, using(crate::proofs::Configured::inputs_refused, crate::proofs::Configured::inputs_kept))]
+pub fn set_inputs(s: &mut Registers, inputs: Inputs) -> Answer
+    ensures { record { told = number_of result; registers = s.new } ≡ set_inputs_in s.old inputs }
 {
-    let answer = setting_answer(s, true);
-    if !refusals::accepts(answer) {
-        return calls::number(answer);
-    }
+    setting_answer(s, true)?;
     registers::put_inputs(s, inputs);
-    0
+    Ok(())
 }
 
 // Clears the error record: the kinds and the last address.
-pub fn clear(s: &mut Registers) -> u32
-    ensures { record { told = result; registers = s.new } ≡ clear_in s.old }
+#[tactic(auto, using(crate::proofs::Configured::clear_refused, crate::proofs::Configured::clear_accepted))]
+pub fn clear(s: &mut Registers) -> Answer
+    ensures { record { told = number_of result; registers = s.new } ≡ clear_in s.old }
 {
     if !validity::valid(s) {
-        return calls::number(Answer::Invalid);
+        return Err(Refusal::Invalid);
     }
     registers::put_errors(s, refusals::no_errors());
-    0
+    Ok(())
 }

@@ -31,6 +31,10 @@ pub accepted_is : (a : Answer) → accepts a ≡ true → a ≡ accepted
 accepted_is (Ok done) h = refl
 accepted_is (Err r) h = absurd (true≢false (sym h))
 
+-- Of two checks the first that refuses answers.
+pub refused_first : {a : Answer} {e : Refusal} (b : Answer) → a ≡ Err e → Err e ≡ or_else a b
+refused_first b h = rw h
+
 -- Two checks accept only if each does.
 pub both_accept : (a b : Answer) → accepts (or_else a b) ≡ true → (accepts a ≡ true) × (accepts b ≡ true)
 both_accept a b h =
@@ -40,6 +44,9 @@ both_accept a b h =
 pub check_passed : (t : Bool) (r : Refusal) → accepts (check t r) ≡ true → t ≡ false
 check_passed true r h = absurd (true≢false (sym h))
 check_passed false r h = refl
+
+pub passed : (t : Bool) (r : Refusal) {done : Unit} → check t r ≡ Ok done → t ≡ false
+passed t r h = check_passed t r (rw h)
 
 -- Checks 1, 2 and 3 come in this order.
 pub first_invalid : (p : Phase) → ready_answer false p ≡ Err Invalid

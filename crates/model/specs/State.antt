@@ -1,5 +1,5 @@
 -- The controller's state and the flash that it is lent; the parts of the state that calls change. (01, 'Phases')
-use Rattle.std.specs.Prelude.{Option, None, Some, ℕ, Bool, true, false, List, eqb, length, get_or, set, take, drop, replicate}
+use Rattle.std.specs.Prelude.{Option, None, Some, ℕ, Bool, true, false, List, eqb, length, get_or, set, take, drop, replicate, is_some}
 use Rattle.model.specs.Geometry.{page_words, image_words, first_word}
 use Rattle.model.specs.Queue.{empty_queue}
 use Rattle.model.specs.declared.ImagePage.{ImagePage}
@@ -178,8 +178,7 @@ is_ready Ready = true
 is_ready Disabled = false
 
 abbrev pub is_busy : Progress → Bool
-is_busy None = false
-is_busy (Some w) = true
+is_busy p = is_some p
 
 -- Of what is in progress: the operation, and how many of its words have moved.
 abbrev pub operation_of : Work → Operation

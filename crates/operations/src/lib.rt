@@ -6,23 +6,18 @@ ghost use Rattle.model.specs.Kinds.{is_read};
 ghost use Rattle.model.specs.Rights.{readable_words};
 ghost use Rattle.model.specs.Steps.{start_answer, starts, progress_after, started};
 ghost use Rattle.registers.specs.Registers.{decode, stands_for, put_progress, put};
-ghost use Rattle.calls.specs.Calls.{start_in};
+ghost use Rattle.calls.specs.Calls.{told_answer, start_in};
 ghost use Rattle.operations.specs.Starting.{Begins};
 
-use calls::ToldAnswer;
-use model::{Answer, Operation};
+use model::{Answer, Operation, Refusal};
 use registers::Registers;
 
 // Checks 1 to 4.
 fn start_answer(s: &Registers) -> Answer
     ensures { result ≡ start_answer (decode s.now) }
 {
-    let progress = registers::progress(s);
-    let ready = validity::ready(s);
-    refusals::or_else(
-        ready,
-        refusals::check(refusals::is_busy(progress), Answer::Busy),
-    )
+    validity::ready(s)?;
+    refusals::check(registers::progress(s).is_some(), Refusal::Busy)
 }
 
 fn starts(o: Operation, answer: Answer) -> bool
@@ -65,14 +60,11 @@ fn started(s: &mut Registers, o: Operation, answer: Answer)
     registers::put_errors(s, errors);
 }
 
-pub fn start(s: &mut Registers, o: Operation) -> ToldAnswer
-    ensures { record { told = result; registers = s.new } ≡ start_in s.old o }
+pub fn start(s: &mut Registers, o: Operation) -> Answer
+    ensures { record { told = told_answer result; registers = s.new } ≡ start_in s.old o }
 {
-    let first = start_answer(s);
-    if !refusals::accepts(first) {
-        return calls::told(first);
-    }
-    let answer = answers::operation_answer(s, o);
-    started(s, o, answer);
-    calls::told(answer)
+    start_answer(s)?;
+    let told = answers::operation_answer(s, o);
+    started(s, o, told);
+    told
 }

@@ -2,10 +2,10 @@
 #![tactic(auto)]
 
 ghost use Rattle.std.specs.Prelude.{◌≡◌, ◌+◌, leb};
-ghost use Rattle.calls.specs.Calls.{push_in, pop_in};
+ghost use Rattle.model.specs.Refusals.{number_of};
+ghost use Rattle.calls.specs.Calls.{told_word, push_in, pop_in};
 
-use calls::ToldWord;
-use model::{Progress, Work};
+use model::{Answer, Refusal, Work};
 use registers::Registers;
 
 // ---- push
@@ -18,48 +18,30 @@ fn pushed_all(count: u32, moved: u32, queued: u32) -> bool
 }
 
 // Checks 1, 2, 3, 12 and 11.
-pub fn push(s: &mut Registers, word: u32) -> u32
-    ensures { record { told = result; registers = s.new } ≡ push_in s.old word }
+pub fn push(s: &mut Registers, word: u32) -> Answer
+    ensures { record { told = number_of result; registers = s.new } ≡ push_in s.old word }
 {
-    let ready = validity::ready(s);
-    if !refusals::accepts(ready) {
-        return calls::number(ready);
-    }
-    let progress = registers::progress(s);
-    let Progress::Running(work) = progress else {
-        return 12;
-    };
-    let Work::Program { op, moved } = work else {
-        return 12;
+    validity::ready(s)?;
+    let Some(Work::Program { op, moved }) = registers::progress(s) else {
+        return Err(Refusal::Unexpected);
     };
     let programs = registers::programs(s);
-    if pushed_all(op.count, moved, programs.len) {
-        return 12;
-    }
-    if queue::is_full(programs) {
-        return 11;
-    }
+    refusals::check(pushed_all(op.count, moved, programs.len), Refusal::Unexpected)?;
+    refusals::check(queue::is_full(programs), Refusal::QueueFull)?;
     registers::put_programs(s, queue::push(programs, word));
-    0
+    Ok(())
 }
 
 // ---- pop
 
 // Checks 1 and 10.
-pub fn pop(s: &mut Registers) -> ToldWord
-    ensures { record { told = result; registers = s.new } ≡ pop_in s.old }
+pub fn pop(s: &mut Registers) -> Result<u32, Refusal>
+    ensures { record { told = told_word result; registers = s.new } ≡ pop_in s.old }
 {
-    if !validity::valid(s) {
-        return ToldWord { answer: 1, word: 0 };
-    }
-    if registers::read_count(s) == 0 {
-        return ToldWord {
-            answer: 10,
-            word: 0,
-        };
-    }
+    refusals::check(!validity::valid(s), Refusal::Invalid)?;
+    refusals::check(registers::read_count(s) == 0, Refusal::QueueEmpty)?;
     let reads = registers::reads(s);
     let word = queue::oldest(reads);
     registers::put_reads(s, queue::pop(reads));
-    ToldWord { answer: 0, word }
+    Ok(word)
 }

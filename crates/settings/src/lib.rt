@@ -2,59 +2,48 @@
 #![tactic(auto)]
 
 ghost use Rattle.std.specs.Prelude.{◌≡◌};
+ghost use Rattle.model.specs.Refusals.{number_of};
 ghost use Rattle.calls.specs.Calls.{set_region_in, set_default_in, set_info_in, set_erase_in};
 
-use model::{PageSetting, Region};
+use model::{Answer, PageSetting, Region};
 use registers::Registers;
 
 // A region, by its number 0 to 7.
-pub fn set_region(s: &mut Registers, number: u32, g: Region) -> u32
-    ensures { record { told = result; registers = s.new } ≡ set_region_in s.old number g }
+pub fn set_region(s: &mut Registers, number: u32, g: Region) -> Answer
+    ensures { record { told = number_of result; registers = s.new } ≡ set_region_in s.old number g }
 {
     let fits = bounds::region_fits(registers::pages(s), g);
-    let answer = inputs::setting_answer(s, (number < 8) & fits);
-    if !refusals::accepts(answer) {
-        return calls::number(answer);
-    }
+    inputs::setting_answer(s, (number < 8) & fits)?;
     registers::put_region(s, number as usize, g);
-    0
+    Ok(())
 }
 
 // The rights of the data pages that no region decides.
-pub fn set_default(s: &mut Registers, rights: u8) -> u32
-    ensures { record { told = result; registers = s.new } ≡ set_default_in s.old rights }
+pub fn set_default(s: &mut Registers, rights: u8) -> Answer
+    ensures { record { told = number_of result; registers = s.new } ≡ set_default_in s.old rights }
 {
-    let answer = inputs::setting_answer(s, bounds::rights_fit(rights));
-    if !refusals::accepts(answer) {
-        return calls::number(answer);
-    }
+    inputs::setting_answer(s, bounds::rights_fit(rights))?;
     registers::put_default(s, rights);
-    0
+    Ok(())
 }
 
 // An information page, by its bank, its type and its number in the type.
-pub fn set_info(s: &mut Registers, bank: u32, t: u8, page: u32, p: PageSetting) -> u32
-    ensures { record { told = result; registers = s.new } ≡ set_info_in s.old bank t page p }
+pub fn set_info(s: &mut Registers, bank: u32, t: u8, page: u32, p: PageSetting) -> Answer
+    ensures { record { told = number_of result; registers = s.new } ≡ set_info_in s.old bank t page p }
 {
     let exists = bounds::info_exists(bank, t, page);
     let fits = bounds::page_fits(p);
-    let answer = inputs::setting_answer(s, exists & fits);
-    if !refusals::accepts(answer) {
-        return calls::number(answer);
-    }
+    inputs::setting_answer(s, exists & fits)?;
     let index = geometry::info_index(bank, t, page);
     registers::put_page(s, index, p);
-    0
+    Ok(())
 }
 
 // A bank's erase permission.
-pub fn set_erase(s: &mut Registers, bank: u32, on: bool) -> u32
-    ensures { record { told = result; registers = s.new } ≡ set_erase_in s.old bank on }
+pub fn set_erase(s: &mut Registers, bank: u32, on: bool) -> Answer
+    ensures { record { told = number_of result; registers = s.new } ≡ set_erase_in s.old bank on }
 {
-    let answer = inputs::setting_answer(s, bank < 2);
-    if !refusals::accepts(answer) {
-        return calls::number(answer);
-    }
+    inputs::setting_answer(s, bank < 2)?;
     registers::put_permission(s, bank as usize, on);
-    0
+    Ok(())
 }

@@ -10,7 +10,7 @@ ghost use Rattle.model.specs.Checks.{malformed};
 ghost use Rattle.registers.specs.Registers.{settings_of, stands_for};
 ghost use Rattle.spans.specs.OnePage.{OnePage};
 
-use model::{Answer, Decider, Operation, PAGE_BYTES, PAGE_WORDS, Page, WIDE_PAGE_BYTES};
+use model::{Answer, Decider, Operation, PAGE_BYTES, PAGE_WORDS, Page, Refusal, WIDE_PAGE_BYTES};
 use registers::Registers;
 
 // How many of the `count` pages from `from` on have the right before the first that has not.
@@ -58,19 +58,19 @@ fn bank_closed(s: &Registers, bank: u32) -> bool
 // Check 9 of a bank erase: its bank's permission decides.
 fn bank_answer(s: &Registers, o: Operation) -> Answer
     requires { is_bank_erase o ≡ true }
-    ensures { result ≡ check (denied (stands_for s.now).setup o) (Answer.Denied (decider_of (stands_for s.now).setup o)) }
+    ensures { result ≡ check (denied (stands_for s.now).setup o) (Refusal.Denied (decider_of (stands_for s.now).setup o)) }
 {
     let address = o.address;
     let d = registers::pages(s);
     let bank = geometry::bank_of(d, geometry::page_of(address));
     let by = Decider::BankPermission;
-    refusals::check(bank_closed(s, bank), Answer::Denied(by))
+    refusals::check(bank_closed(s, bank), Refusal::Denied(by))
 }
 
 // Check 9 of a span within one page: what decides that page decides.
 fn page_answer(s: &Registers, o: Operation) -> Answer
     requires { OnePage o }
-    ensures { result ≡ check (denied (stands_for s.now).setup o) (Answer.Denied (decider_of (stands_for s.now).setup o)) }
+    ensures { result ≡ check (denied (stands_for s.now).setup o) (Refusal.Denied (decider_of (stands_for s.now).setup o)) }
 {
     let information = places::is_information(o);
     let page = geometry::page_of(places::span_start(o));
@@ -78,14 +78,14 @@ fn page_answer(s: &Registers, o: Operation) -> Answer
     let by = ruling.decider;
     refusals::check(
         !rights::grants(ruling.rights, places::right_needed(o)),
-        Answer::Denied(by),
+        Refusal::Denied(by),
     )
 }
 
 // Check 9 of another span: who decides its first denied page is named.
 fn span_answer(s: &Registers, o: Operation) -> Answer
     requires { (is_bank_erase o ≡ false) × (span_words o < 1048576) }
-    ensures { result ≡ check (denied (stands_for s.now).setup o) (Answer.Denied (decider_of (stands_for s.now).setup o)) }
+    ensures { result ≡ check (denied (stands_for s.now).setup o) (Refusal.Denied (decider_of (stands_for s.now).setup o)) }
 {
     let words = places::span_words(o);
     let allowed = allowed_words(s, o);
@@ -94,15 +94,15 @@ fn span_answer(s: &Registers, o: Operation) -> Answer
         let information = places::is_information(o);
         let ruling = lookups::ruling_at(s, information, o.info, Page(page as u32));
         let by = ruling.decider;
-        return Answer::Denied(by);
+        return Err(Refusal::Denied(by));
     }
-    Answer::Accepted
+    Ok(())
 }
 
 // Check 9.
 pub fn right_answer(s: &Registers, o: Operation) -> Answer
     requires { malformed o ≡ false }
-    ensures { result ≡ check (denied (stands_for s.now).setup o) (Answer.Denied (decider_of (stands_for s.now).setup o)) }
+    ensures { result ≡ check (denied (stands_for s.now).setup o) (Refusal.Denied (decider_of (stands_for s.now).setup o)) }
 {
     if places::is_bank_erase(o) {
         return bank_answer(s, o);

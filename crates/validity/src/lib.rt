@@ -114,8 +114,8 @@ fn running_fits(s: &Registers, p: Progress) -> bool
     ensures { result ≡ running_fits (stands_for s.now).setup (stands_for s.now).queues.programs p }
 {
     match p {
-        Progress::Idle => registers::program_count(s) == 0,
-        Progress::Running(w) => work_fits(s, w),
+        None => registers::program_count(s) == 0,
+        Some(w) => work_fits(s, w),
     }
 }
 

@@ -59,7 +59,7 @@ returns_4 c =
     let k = asked r.before.before.before r.before.before.if-not-program-formed.false in
     let one = sym w.crosses_window.ensures ∙ c.if-crosses_window.false in
     let g = rw c.page_of.ensures.0 at c.page_grants.ensures in
-    rw (k.0, k.1, sym (outside r) ∙ w.before.if-out_of_range.false, one, program_denied _ k.0 k.1 one _) (g ∙ by_grant _ _ refl)
+    rw (k.0, k.1, sym (outside r) ∙ w.before.if-out_of_range.false, one, program_denied _ k.0 k.1 one _) (g ∙ by_grant _ _)
 
 pub program_fits_spec : {M : Type 1} → statement M
 program_fits_spec =

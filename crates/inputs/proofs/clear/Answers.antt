@@ -1,0 +1,7 @@
+-- `inputs::clear` meets its contract. Assumes nothing.
+use Rattle.std.proofs.Common.{sym, ◌∙◌}
+use Rattle.inputs.proofs.Configured.{clear_accepted}
+use Rattle.inputs.proofs.clear.Goals as goal
+
+pub returns : goal.returns
+returns c = rw (c.put_errors.ensures, c.no_errors.ensures) (clear_accepted _ (sym c.valid.ensures ∙ c.if-not-valid.false))
