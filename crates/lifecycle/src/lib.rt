@@ -1,7 +1,7 @@
 // The life cycle on registers: reset, initialise with the seeds, and RMA.
 #![tactic(auto)]
 
-ghost use Rattle.std.specs.Prelude.{◌≡◌, ◌+◌, ◌≤◌, length, take, drop, replicate};
+ghost use Rattle.std.specs.Prelude.{◌≡◌, ◌+◌, ◌≤◌, length, take, drop};
 ghost use Rattle.model.specs.State.{flash};
 ghost use Rattle.model.specs.Refusals.{number_of};
 ghost use Rattle.model.specs.Geometry.{image_words, creator_page, owner_page};
@@ -13,6 +13,7 @@ use model::{Answer, BusWord, CREATOR_PAGE, OWNER_PAGE, Phase, Refusal, Seeds};
 use registers::Registers;
 
 // Takes any state, and checks only its new D.
+#[tactic(auto, using(crate::proofs::Cycled::reset_refused, crate::proofs::Cycled::reset_accepted))]
 pub fn reset(s: &mut Registers, pages: u32) -> Answer
     ensures { record { told = number_of result; registers = s.new } ≡ reset_in s.old pages }
 {
@@ -34,6 +35,7 @@ fn is_disabled(p: Phase) -> bool
 // ---- initialise
 
 // Checks 1, 2 and 12 (when ready).
+#[tactic(auto, using(crate::proofs::Cycled::initialise_checks))]
 fn initialise_answer(s: &Registers, image: &[u32]) -> Answer
     ensures { result ≡ initialise_answer (decode s.now) (flash image.now) }
 {
@@ -72,6 +74,7 @@ fn seeds_of(d: u32, image: &[u32]) -> Seeds
 }
 
 // An uninitialised controller becomes ready. With provision enabled the seeds are handed out.
+#[tactic(auto, using(crate::proofs::Cycled::initialise_refused, crate::proofs::Cycled::initialise_fits, crate::proofs::Cycled::initialise_gives, crate::proofs::Cycled::initialise_gives_none))]
 pub fn initialise(s: &mut Registers, image: &[u32]) -> Result<Option<Seeds>, Refusal>
     ensures { record { told = told_seeds (answer_of result) (seeds_or_none result); registers = s.new } ≡ initialise_in s.old (flash image.now) }
 {
@@ -89,6 +92,7 @@ pub fn initialise(s: &mut Registers, image: &[u32]) -> Result<Option<Seeds>, Ref
 // ---- RMA
 
 // Checks 1, 2 and 4.
+#[tactic(auto, using(crate::proofs::Cycled::rma_checks))]
 fn rma_answer(s: &Registers, image: &[u32]) -> Answer
     ensures { result ≡ rma_answer (decode s.now) (flash image.now) }
 {
@@ -98,6 +102,7 @@ fn rma_answer(s: &Registers, image: &[u32]) -> Answer
 }
 
 // The image is wiped, both queues are emptied, and the controller is disabled until reset.
+#[tactic(auto, using(crate::proofs::Cycled::rma_refused, crate::proofs::Cycled::rma_fits, crate::proofs::Cycled::rma_accepted))]
 pub fn rma(s: &mut Registers, image: &mut [u32]) -> Answer
     ensures { record { told = number_of result; registers = s.new; flash = flash image.new } ≡ rma_in s.old (flash image.old) }
 {
