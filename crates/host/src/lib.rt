@@ -29,11 +29,15 @@ fn late_answer(s: &Registers, at: ByteAddress) -> Answer
     ensures { result ≡ or_else (check (unaligned at) Refusal.Malformed) (or_else (check (past_data (get_or s.now pages_at 0) at) Refusal.OutOfRange) (read_answer (stands_for s.now).setup (page_of at))) }
 {
     refusals::check(checks::unaligned(at), Refusal::Malformed)?;
-    refusals::check(checks::past_data(registers::pages(s), at), Refusal::OutOfRange)?;
+    refusals::check(
+        checks::past_data(registers::pages(s), at),
+        Refusal::OutOfRange,
+    )?;
     read_answer(s, geometry::page_of(at))
 }
 
 // A host read of a state that has passed checks 1 to 3.
+#[tactic(auto, using(crate::proofs::Hosted::late_refused))]
 pub fn ready_read(s: &Registers, image: &[u32], at: ByteAddress) -> Result<u32, Refusal>
     requires { Ready s.now (flash image.now) }
     ensures { told_host_word (answer_of result) (or_zero result) ≡ host_read_in s.now (flash image.now) at }
@@ -44,6 +48,7 @@ pub fn ready_read(s: &Registers, image: &[u32], at: ByteAddress) -> Result<u32, 
 }
 
 // The true word at an address of the data pages.
+#[tactic(auto, using(crate::proofs::Hosted::read_early))]
 pub fn host_read(s: &Registers, image: &[u32], at: ByteAddress) -> Result<u32, Refusal>
     ensures { told_host_word (answer_of result) (or_zero result) ≡ host_read_in s.now (flash image.now) at }
 {
@@ -55,10 +60,11 @@ pub fn host_read(s: &Registers, image: &[u32], at: ByteAddress) -> Result<u32, R
 fn view_answer(s: &Registers, image: &[u32], p: Page) -> Answer
     ensures { result ≡ view_answer (decode s.now) (flash image.now) p }
 {
-    validity::ready_with(s, image)?;
+    let ready = validity::ready_with(s, image);
     let past = 2 * (registers::pages(s) as usize) <= p.0 as usize;
-    refusals::check(past, Refusal::OutOfRange)?;
-    read_answer(s, p)
+    let range = refusals::check(past, Refusal::OutOfRange);
+    let right = read_answer(s, p);
+    refusals::or_else(ready, refusals::or_else(range, right))
 }
 
 // The word of the image at which a data page starts.
@@ -72,6 +78,7 @@ fn page_start(s: &Registers, p: Page) -> u32
 }
 
 // The word of the image at which a view starts.
+#[tactic(auto, using(crate::proofs::Hosted::view_refused, crate::proofs::Hosted::view_shown, crate::proofs::Hosted::view_fits))]
 pub fn view_start(s: &Registers, image: &[u32], p: Page) -> Result<u32, Refusal>
     ensures { told_start (answer_of result) (or_zero result) ≡ view_in s.now (flash image.now) p }
 {
