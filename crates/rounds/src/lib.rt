@@ -18,6 +18,7 @@ use registers::Registers;
 // ---- who competes for a bank
 
 // A step that would wait does not compete, nor does one with nothing in progress.
+#[tactic(auto, unfolding(registers::specs::Registers::stands_for))]
 fn would_move(s: &Registers) -> bool
     ensures { result ≡ goes (stands_for s.now).queues (progress_at s.now) }
 {
@@ -135,19 +136,24 @@ fn both_refused(refusal: Refusal) -> Round
 }
 
 // Both are asked: checks 1 to 3 are made once, for both.
+#[tactic(auto, using(crate::proofs::Served::asked_refused, crate::proofs::Served::asked_ready))]
 fn both_asked(s: &mut Registers, image: &mut [u32], at: ByteAddress) -> Round
     ensures { record { told = told_round result; registers = s.new; flash = flash image.new } ≡ round_in s.old (flash image.old) (Some at) true }
 {
-    if let Err(refusal) = validity::ready_with(s, image) {
-        return both_refused(refusal);
+    match validity::ready_with(s, image) {
+        Err(refusal) => both_refused(refusal),
+        Ok(()) => {
+            if competes(s, at) {
+                contest(s, image, at)
+            } else {
+                both_go(s, image, at)
+            }
+        }
     }
-    if competes(s, at) {
-        return contest(s, image, at);
-    }
-    both_go(s, image, at)
 }
 
 // What the host asks, and whether the step is asked.
+#[tactic(auto, unfolding(calls::specs::Calls::round_in, model::specs::Rounds::round))]
 pub fn round(s: &mut Registers, image: &mut [u32], host: HostRequest, step: bool) -> Round
     ensures { record { told = told_round result; registers = s.new; flash = flash image.new } ≡ round_in s.old (flash image.old) host step }
 {
