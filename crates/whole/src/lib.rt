@@ -46,8 +46,8 @@ pub fn short_buffer(o: Operation, buffer: &[u32]) -> bool
 // A read's words go to the buffer, and the queue that they go through is left empty.
 fn read(s: &mut Registers, image: &[u32], o: Operation, buffer: &mut [u32], readable: u32)
     requires { Placed (setup_of s.old).pages o (flash image.now) × (total_words (setup_of s.old).pages o ≤ length buffer.old) }
-    ensures s_after { s.new ≡ put_queue s.old reads_from empty_queue }
-    ensures buffer_after { buffer.new ≡ delivered_at (flash image.now) readable 0 (places_of (setup_of s.old).pages o) ++ drop (length (places_of (setup_of s.old).pages o)) buffer.old }
+    ensures registers { s.new ≡ put_queue s.old reads_from empty_queue }
+    ensures buffer { buffer.new ≡ delivered_at (flash image.now) readable 0 (places_of (setup_of s.old).pages o) ++ drop (length (places_of (setup_of s.old).pages o)) buffer.old }
 {
     transfers::read(registers::pages(s), image, o, buffer, readable);
     registers::put_reads(s, queue::empty());
@@ -81,20 +81,29 @@ fn answered(
     requires { Admitted s.old (flash image.old) o buffer.old × (answer ≡ operation_answer (setup_of s.old) o) }
     ensures { record { told = told_bits (answer_of result) (or_zero result); registers = s.new; flash = flash image.new; buffer = buffer.new } ≡ whole_left s.old (performed (stands_for s.old) (flash image.old) o buffer.old (plan_answered (setup_of s.old) o answer)) }
 {
-    let Err(refusal) = answer else {
-        return Ok(started(s, image, o, buffer));
-    };
-    let errors = answers::recorded(s, o, answer);
-    if answers::is_denied_read(o, answer) {
-        let readable = answers::readable(s, o, answer);
-        read(s, image, o, buffer, readable);
+    match answer {
+        Ok(()) => Ok(started(s, image, o, buffer)),
+        Err(refusal) => {
+            let errors = answers::recorded(s, o, answer);
+            if answers::is_denied_read(o, answer) {
+                let readable = answers::readable(s, o, answer);
+                read(s, image, o, buffer, readable);
+                registers::put_errors(s, errors);
+                return Err(refusal);
+            }
+            registers::put_errors(s, errors);
+            Err(refusal)
+        }
     }
-    registers::put_errors(s, errors);
-    Err(refusal)
 }
 
 // 6 comes after 5, since a malformed operation does not come to it, and before 7, 8 and 9.
-pub fn run(s: &mut Registers, image: &mut [u32], o: Operation, buffer: &mut [u32]) -> Result<u32, Refusal>
+pub fn run(
+    s: &mut Registers,
+    image: &mut [u32],
+    o: Operation,
+    buffer: &mut [u32],
+) -> Result<u32, Refusal>
     ensures { record { told = told_bits (answer_of result) (or_zero result); registers = s.new; flash = flash image.new; buffer = buffer.new } ≡ whole_in s.old (flash image.old) o buffer.old }
 {
     whole_answer(s, image)?;
