@@ -8,10 +8,6 @@ use Rattle.model.specs.Valid.{all}
 use mathlib.Core.List.{List}
 use lib.ListN.{length, get_or, take, drop, length-drop}
 use lib.Seq.{sets, set-get_or, ext_get_or, get_or-take, get_or-drop, length-take-le}
-use borrow.Author.Rules.{rules}
-use borrow.Rule.Slice.PartMut.{put_mid}
-use Rattle.std.proofs.lemmas.Slice.{overwrites}
-use Rattle.std.proofs.lemmas.List.Edits.{sets-eq}
 use Rattle.model.specs.declared.Region.{Region}
 use Rattle.model.specs.declared.PageSetting.{PageSetting}
 use Rattle.registers.specs.Registers.{listed, every, region_at, setting_at, regions_of, info_of}
@@ -44,10 +40,6 @@ part_listed s at n fits =
     let long : n ≤ length (drop at s) = rw length-drop (omega arith) in
     listed_same (λ k. get_or s k 0) at n (take n (drop at s)) (length-take-le n (drop at s) long)
     (λ k h. get_or-take n (drop at s) k 0 h ∙ get_or-drop at s k 0)
-
--- A list written over a part of another is stored there element by element.
-pub part_stored : (s : List ℕ) (at n : ℕ) (vs : List ℕ) → length vs ≡ n → at + n ≤ length s → put_mid at n s vs ≡ sets s at vs
-part_stored s at n vs long fits = rw (sets-eq vs s at (omega arith), long) (search (rules, overwrites))
 
 -- What stands in some places, stored there again, changes nothing.
 pub sets_same : (s : List ℕ) (at n : ℕ) → sets s at (listed (λ k. get_or s k 0) at n) ≡ s

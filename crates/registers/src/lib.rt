@@ -415,7 +415,7 @@ pub fn no_progress(s: &mut Registers)
     s[RUNNING] = 0;
 }
 
-#[tactic(auto, using(crate::proofs::Listed::part_stored))]
+#[tactic(auto, using(model::proofs::Parts::part_stored))]
 fn put_queue(s: &mut Registers, at: usize, q: Queue)
     requires { at ≤ 116 }
     ensures { s.new ≡ put_queue s.old at q }
