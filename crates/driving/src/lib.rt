@@ -79,10 +79,8 @@ fn turns(s: &mut Registers, image: &mut [u32], o: Operation, buffer: &mut [u32],
     ensures { record { registers = s.new; flash = flash image.new; buffer = buffer.new; bits = result } ≡ turns_in o n (record { registers = s.old; flash = flash image.old; buffer = buffer.old; bits = 0 }) }
 {
     let mut bits: u32 = 0;
-    let mut k: u32 = 0;
-    while k < n {
+    for k in 0..n {
         bits = turn(s, image, o, buffer, k as usize, bits);
-        k += 1;
     }
     bits
 }
