@@ -247,6 +247,9 @@ module _ (s : List ℕ) where
     unfolding verdict_of
     verdict_bad p e = rw (le-leb _ _ short) (judged_bad (block_at s 0 0) p e)
 
+pub ruleset verdict_ways = (verdict_long, verdict_after, verdict_good, verdict_large, verdict_bad)
+
+module _ (s : List ℕ) where
   -- A good sheet runs as many entries as its verdict says, 4,096 at most; a bad one none.
   good_known : (m : Meaning) (k : ℕ) → Ok k ≡ judged s m → (k ≡ length (places_of m)) × (k ≤ 4096)
   good_known (Runs ps n) k g =
