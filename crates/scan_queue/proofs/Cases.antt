@@ -3,7 +3,7 @@ use mathlib.Core.Path.{◌≡◌, refl}
 use mathlib.Core.List.{List, [], ◌∷◌, ◌++◌}
 use Prim.Native.Nat.{ℕ, ◌*◌}
 use lib.ListN.{replicate, set}
-use Rattle.numbers.specs.declared.Parsed.TheVariants.{Number, Bad}
+use Rattle.std.proofs.Common.{Ok, Err}
 use Rattle.numbers.specs.Number.{continued, last_group, groups_value, shortest, number_between, number_at, limited, number_to, then_number}
 use Rattle.scan_queue.specs.Payload.{Scan, max_serial, groups, bytes_of, words_of, all, serial_in, length_in, body_of, payload_of, written}
 use Rattle.scan_queue.specs.Slots.{Entry, Unused, Dead, Waiting, Taken, Odd, blank, words_at, slot_at, slots_from, places, entries, insert, sorted, queue, highest}
@@ -24,7 +24,7 @@ unfolding words_of written groups
 words_4 = refl
 
 -- 0 in two groups is not the shortest form; five groups are too many.
-forms : (number_to (128 ∷ 0 ∷ []) max_serial 0 ≡ Bad 0) × (number_to (0 ∷ 5 ∷ []) max_serial 0 ≡ Number 0 1) × (number_to (255 ∷ 255 ∷ 255 ∷ 255 ∷ 1 ∷ []) max_serial 0 ≡ Bad 0)
+forms : (number_to (128 ∷ 0 ∷ []) max_serial 0 ≡ Err 0) × (number_to (0 ∷ 5 ∷ []) max_serial 0 ≡ Ok (record { value = 0; next = 1 })) × (number_to (255 ∷ 255 ∷ 255 ∷ 255 ∷ 1 ∷ []) max_serial 0 ≡ Err 0)
 unfolding continued last_group groups_value shortest number_between number_at limited number_to
 forms = (refl, refl, refl)
 

@@ -1,9 +1,7 @@
 -- Words 2 to 15 of a slot: 'a serial below 2^28 and a length, both as seven-bit groups as in L4, then 1 to 48 bytes, the rest
 -- ones, lowest byte of a word first'. (02, L11)
-use Rattle.std.specs.Prelude.{ℕ, zero, suc, ◌+◌, ◌*◌, ◌-◌, ◌/◌, ◌%◌, ◌<◌, Bool, true, cond, ◌&&◌, List, [], ◌∷◌, ◌++◌, ltb, leb, eqb, length, take, drop, replicate}
-use Rattle.numbers.specs.declared.Parsed.{Parsed}
-use Rattle.numbers.specs.declared.Parsed.TheVariants.{Number, Bad}
-use Rattle.numbers.specs.Number.{number_to, then_number, value_of}
+use Rattle.std.specs.Prelude.{ℕ, zero, suc, ◌+◌, ◌*◌, ◌-◌, ◌/◌, ◌%◌, ◌<◌, Bool, true, cond, ◌&&◌, List, [], ◌∷◌, ◌++◌, ltb, leb, eqb, length, take, drop, replicate, Ok, Err}
+use Rattle.numbers.specs.Number.{Parsed, number_to, then_number, value_of}
 
 -- A scan: its serial, and its bytes, which are as many as its length says.
 pub record Scan : Type 0 where
@@ -59,11 +57,11 @@ length_in l = then_number l max_length (serial_in l)
 
 -- 'Then 1 to 48 bytes, the rest ones', to the end of word 15.
 unfoldable pub body_of : List ℕ → ℕ → Parsed → Payload
-body_of l serial (Number n at) =
-    cond (leb 1 n && (leb (at + n) (length l) && all 255 (drop (at + n) l)))
-    (Holds (record { serial = serial; bytes = take n (drop at l) }))
+body_of l serial (Ok n) =
+    cond (leb 1 n.value && (leb (n.next + n.value) (length l) && all 255 (drop (n.next + n.value) l)))
+    (Holds (record { serial = serial; bytes = take n.value (drop n.next l) }))
     Malformed
-body_of l serial (Bad p) = Malformed
+body_of l serial (Err p) = Malformed
 
 unfoldable pub payload_of : List ℕ → Payload
 payload_of l = body_of l (value_of (serial_in l)) (length_in l)

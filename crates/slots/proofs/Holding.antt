@@ -7,9 +7,9 @@ use lib.Dec.{leb, eqb}
 use lib.ListN.{length, get_or, drop}
 use borrow.Author.Tests.{leb-true, eq-eqb, ne_eqb}
 use Rattle.model.proofs.Bool.{and_left, and_right}
-use Rattle.numbers.specs.declared.Parsed.{Parsed}
-use Rattle.numbers.specs.declared.Parsed.TheVariants.{Number, Bad}
-use Rattle.numbers.specs.Number.{number_to, then_number, value_of}
+use Rattle.std.proofs.Common.{Ok, Err}
+use Rattle.numbers.specs.declared.Numeral.{Numeral}
+use Rattle.numbers.specs.Number.{Parsed, number_to, then_number, value_of}
 use Rattle.numbers.proofs.Laws.{Goes, number_to_goes, then_goes, then_small}
 use Rattle.scan_queue.specs.Payload.{max_serial, max_length, all, Payload, serial_in, length_in, body_of, payload_of}
 use Rattle.scan_queue.specs.Slots.{Slot, sealed_of, slot_at, words_at, blank}
@@ -22,14 +22,14 @@ use Rattle.slots.specs.declared.Body.TheVariants.{Broken, Whole}
 
 module _ (l : List ℕ) (serial n at : ℕ) (rest : Bool) (ones : rest ≡ all 255 (drop (at + n) l)) where
   pub body_whole : n ≤ max_length → leb 1 n && (leb (at + n) (length l) && rest) ≡ true
-      → HeldAs l (body_of l serial (Number n at)) (Whole (record { serial = serial; start = at; count = n }))
+      → HeldAs l (body_of l serial (Ok (record { value = n; next = at }))) (Whole (record { serial = serial; start = at; count = n }))
   unfolding body_of
   body_whole h e = record {
     is = rw (← ones, e) refl;
     lies = (h, leb-true _ _ (and_left (leb (at + n) (length l)) _ (and_right (leb 1 n) _ e)));
   }
 
-  pub body_broken : leb 1 n && (leb (at + n) (length l) && rest) ≡ false → HeldAs l (body_of l serial (Number n at)) Broken
+  pub body_broken : leb 1 n && (leb (at + n) (length l) && rest) ≡ false → HeldAs l (body_of l serial (Ok (record { value = n; next = at }))) Broken
   unfolding body_of
   body_broken e = record { is = rw (← ones, e) refl; lies = tt }
 
@@ -55,17 +55,17 @@ module _ (l : List ℕ) (first second : Parsed) (read : first ≡ number_to l ma
   unfolding payload_of
   payload_is = rw (is_first, is_second) refl
 
-  pub payload_bad : (p : ℕ) → second ≡ Bad p → HeldAs l (payload_of l) Broken
+  pub payload_bad : (p : ℕ) → second ≡ Err p → HeldAs l (payload_of l) Broken
   unfolding body_of
   payload_bad p e = record { is = sym (payload_is ∙ rw e refl); lies = tt }
 
-  pub payload_read : (v n : ℕ) → second ≡ Number v n → (r : Body) → HeldAs l (body_of l (value_of first) (Number v n)) r → HeldAs l (payload_of l) r
-  payload_read v n e r h = subst (λ (p : Payload). HeldAs l p r) (ap (body_of l (value_of first)) (sym e) ∙ sym payload_is) h
+  pub payload_read : (n : Numeral) → second ≡ Ok n → (r : Body) → HeldAs l (body_of l (value_of first) (Ok n)) r → HeldAs l (payload_of l) r
+  payload_read n e r h = subst (λ (p : Payload). HeldAs l p r) (ap (body_of l (value_of first)) (sym e) ∙ sym payload_is) h
 
-  pub room : (v n : ℕ) → second ≡ Number v n → (n ≤ length l) × (v ≤ max_length)
-  room v n e =
-      let g : Goes l 0 (Number v n) = subst (λ (r : Parsed). Goes l 0 r) (sym is_second ∙ e) (length_goes l) in
-      let s : value_of (Number v n) ≤ max_length = subst (λ (r : Parsed). value_of r ≤ max_length) (sym is_second ∙ e) (length_small l) in
+  pub room : (n : Numeral) → second ≡ Ok n → (n.next ≤ length l) × (n.value ≤ max_length)
+  room n e =
+      let g : Goes l 0 (Ok n) = subst (λ (r : Parsed). Goes l 0 r) (sym is_second ∙ e) (length_goes l) in
+      let s : value_of (Ok n) ≤ max_length = subst (λ (r : Parsed). value_of r ≤ max_length) (sym is_second ∙ e) (length_small l) in
       (g.1, s)
 
 -- ---- slots

@@ -2,13 +2,11 @@
 // handed back.
 #![tactic(auto)]
 
-ghost use Rattle.std.specs.Prelude.{◌≡◌, ◌+◌, ◌≤◌, ◌<◌, length, get_or, drop};
-ghost use Rattle.numbers.specs.declared.Parsed.TheVariants as parsed;
+ghost use Rattle.std.specs.Prelude.{◌≡◌, ◌+◌, ◌≤◌, ◌<◌, length, get_or, drop, Ok};
 ghost use Rattle.scan_queue.specs.Payload.{all, body_of, payload_of};
 ghost use Rattle.scan_queue.specs.Slots.{slot_at, blank, words_at};
 ghost use Rattle.slots.specs.Code.{byte_in, payload_bytes, HeldAs, to_slot};
 
-use numbers::Parsed;
 use scan_queue::{MAX_LENGTH, MAX_SERIAL, PAYLOAD_BYTES};
 
 pub type Payload = [u8; PAYLOAD_BYTES];
@@ -96,7 +94,7 @@ fn ones_from(bytes: &[u8], from: usize) -> bool
 // A scan of `count` bytes from `start` on, and ones after it.
 fn body_at(bytes: &[u8], serial: u32, count: u32, start: usize) -> Body
     requires { (start ≤ length bytes.now) × (count ≤ 48) }
-    ensures { HeldAs bytes.now (body_of bytes.now serial (parsed.Number count start)) result }
+    ensures { HeldAs bytes.now (body_of bytes.now serial (Ok (record { value = count; next = start }))) result }
 {
     let n = count as usize;
     let end = start + n;
@@ -121,8 +119,8 @@ pub fn payload_in(bytes: &[u8]) -> Body
     let second = numbers::then_number(bytes, first, MAX_LENGTH);
     let serial = numbers::value_of(first);
     match second {
-        Parsed::Number { value, next } => body_at(bytes, serial, value, next),
-        Parsed::Bad(_) => Body::Broken,
+        Ok(length) => body_at(bytes, serial, length.value, length.next),
+        Err(_) => Body::Broken,
     }
 }
 
