@@ -10,13 +10,14 @@ use native.Mathlib.Omega.{arith}
 use lib.Dec.{ltb, leb}
 use lib.ListN.{length, get_or, drop, replicate, length-append, length-replicate, length-drop}
 use lib.Seq.{drop-cons, drop-drop, take-append_seam, drop-append_seam}
+use Rattle.std.specs.Prelude.{Some}
 use Rattle.model.proofs.Bool.{which}
 use borrow.Author.Tests.{lt-ltb, lt-leb, le-leb, leb-false, eq-eqb, ltb-true, ltb-false}
 use Rattle.std.proofs.Common.{Ok}
 use Rattle.numbers.specs.Number.{Parsed, largest, last_group, groups_value, shortest, number_between, number_at, limited, number_to, then_number}
 use Rattle.numbers.proofs.Laws.{last_here, last_on}
 pub use Rattle.scan_queue.specs.Payload.{Below}
-use Rattle.scan_queue.specs.Payload.{Scan, max_serial, max_length, payload_length, groups, bytes_of, words_of, Holds, all, serial_in, length_in, body_of, payload_of, written}
+use Rattle.scan_queue.specs.Payload.{Scan, max_serial, max_length, payload_length, groups, bytes_of, words_of, all, serial_in, length_in, body_of, payload_of, written}
 
 -- ---- a number and its groups
 
@@ -230,7 +231,7 @@ written_below s h =
     (below_replicate 256 (56 - length (groups 4 s.serial ++ groups 4 (length s.bytes) ++ s.bytes)) 255 (omega arith))
 
 read_back : (s : Scan) (n : ℕ) → Fits s
-    → payload_of (groups 4 s.serial ++ (groups 4 (length s.bytes) ++ (s.bytes ++ replicate n 255))) ≡ Holds s
+    → payload_of (groups 4 s.serial ++ (groups 4 (length s.bytes) ++ (s.bytes ++ replicate n 255))) ≡ Some s
 unfolding payload_of serial_in length_in then_number body_of
 read_back s n h =
     let a : List ℕ = groups 4 s.serial in
@@ -248,6 +249,6 @@ read_back s n h =
     let inside : length a + length b + k ≤ length all_of = omega arith in
     rw (first, second, at, end, le-leb 1 k h.some, le-leb _ _ inside, take-append_seam s.bytes (replicate n 255), all_replicate 255 n)
 
-pub payload_written : (s : Scan) → Fits s → payload_of (written s) ≡ Holds s
+pub payload_written : (s : Scan) → Fits s → payload_of (written s) ≡ Some s
 unfolding written
 payload_written s h = simp append_assoc (read_back s (payload_length - length (groups 4 s.serial ++ (groups 4 (length s.bytes) ++ s.bytes))) h)
