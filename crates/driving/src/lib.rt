@@ -7,7 +7,7 @@ ghost use Rattle.model.specs.State.{flash};
 ghost use Rattle.model.specs.Refusals.{number_of, reported};
 ghost use Rattle.driving.specs.Drives.{stepped_bits, stepped_in, with_pushed_in, with_popped_in, turn_in, turns_in, Room, starts_by, driven_in};
 
-use calls::{ToldAnswer, ToldStep};
+use calls::{ToldAnswer, ToldStep, ToldWord};
 use model::{Answer, Operation, Refusal};
 use registers::Registers;
 
@@ -38,7 +38,7 @@ fn read_turn(s: &mut Registers, image: &mut [u32], buffer: &mut [u32], k: usize,
 {
     let sum = stepped(s, image, bits);
     let popped = queueing::pop(s);
-    buffer[k] = popped.unwrap_or(0);
+    buffer[k] = ToldWord::from(popped).word;
     sum
 }
 
@@ -96,12 +96,6 @@ fn starts(o: Operation, answer: Answer) -> bool
     accepted | (read & denied)
 }
 
-fn fewer(a: u32, b: u32) -> u32
-    ensures { result ≡ min a b }
-{
-    if a < b { a } else { b }
-}
-
 fn unmoved(answer: Answer, steps: u32) -> Driven
     ensures { result ≡ record { answer = number_of answer; decider = reported answer; bits = 0; left = steps; cut = 0 } }
 {
@@ -139,7 +133,7 @@ pub fn drive(
     }
     let told = ToldAnswer::from(answer);
     let total = places::total_words(d, o) as u32;
-    let n = fewer(steps, total);
+    let n = steps.min(total);
     let bits = turns(s, image, o, buffer, n);
     Driven {
         answer: told.answer,

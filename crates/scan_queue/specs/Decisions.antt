@@ -1,7 +1,7 @@
 -- What a write and a take do, by the words of the two pages alone: looking at slots is reading the image. (02, L11)
 -- a is the first word of the lower page, b that of the higher.
 use Rattle.std.specs.Prelude.{Bool, true, false, cond, ◌&&◌, List, [], ◌∷◌, ℕ, suc, ltb, leb, length, Option, None, Some, is_none}
-use Rattle.model.specs.Refusals.{number_of}
+use Rattle.model.specs.Refusals as answers
 use Rattle.scan_queue.specs.declared.ScanRefusal.{ScanRefusal}
 use Rattle.scan_queue.specs.declared.ScanRefusal.TheVariants.{Controller, BadPages, Full, BadScan, NoScan}
 use Rattle.scan_queue.specs.Payload.{Scan}
@@ -16,7 +16,7 @@ pub data Decision : Type 0 where
   Marks : ℕ → Decision
 
 abbrev pub refusal_number : ScanRefusal → ℕ
-refusal_number (Controller answer) = number_of answer
+refusal_number (Controller r) = answers.refusal_number r
 refusal_number BadPages = 16
 refusal_number Full = 17
 refusal_number BadScan = 18

@@ -3,9 +3,10 @@
 #![tactic(auto)]
 
 ghost use Rattle.std.specs.Prelude.{◌≡◌};
+ghost use Rattle.scan_queue.specs.declared.ScanRefusal.TheVariants.{Controller};
 ghost use Rattle.scan_queue.specs.Decisions.{refusal_number};
 
-use model::Answer;
+use model::Refusal;
 
 // Words 2 to 15 of a slot have 56 bytes.
 pub const PAYLOAD_BYTES: usize = 56;
@@ -21,11 +22,19 @@ pub const WIDE_MAX_LENGTH: usize = MAX_LENGTH as usize;
 // out of range, or none waits.
 #[derive(Clone, Copy)]
 pub enum ScanRefusal {
-    Controller(Answer),
+    Controller(Refusal),
     BadPages,
     Full,
     BadScan,
     NoScan,
+}
+
+impl From<Refusal> for ScanRefusal {
+    ghost from_gives = { λ r e. e ≡ Controller r };
+
+    fn from(refusal: Refusal) -> ScanRefusal {
+        ScanRefusal::Controller(refusal)
+    }
 }
 
 impl ScanRefusal {
@@ -33,7 +42,7 @@ impl ScanRefusal {
         ensures { result ≡ refusal_number self }
     {
         match self {
-            ScanRefusal::Controller(answer) => u32::from(refusals::number_of(answer)),
+            ScanRefusal::Controller(refusal) => u32::from(refusals::number(refusal)),
             ScanRefusal::BadPages => 16,
             ScanRefusal::Full => 17,
             ScanRefusal::BadScan => 18,

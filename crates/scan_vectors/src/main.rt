@@ -95,7 +95,8 @@ impl Flash {
     fn power_on(&mut self, rt: &impl Print) -> io::Result<()> {
         let _ = lifecycle::reset(&mut self.registers, PAGES);
         let _ = settings::set_default(&mut self.registers, ALL_RIGHTS);
-        let answer = lifecycle::initialise(&mut self.registers, &self.image).answer;
+        let initialised = lifecycle::initialise(&mut self.registers, &self.image);
+        let answer = refusals::number_of(initialised.map(|_| ()));
         println!(rt; "reset, all rights by default, initialise: {answer}")
     }
 

@@ -7,6 +7,7 @@ ghost use Rattle.model.specs.State.{flash};
 ghost use Rattle.sheets.specs.Sheet.{verdict_of};
 ghost use Rattle.sheet_effects.specs.Run.{performed, run, bench_run, printed_of};
 
+use calls::ToldBits;
 use model::ERASED;
 use registers::Registers;
 use sheet_effects::{Line, Ran};
@@ -54,12 +55,12 @@ fn perform(s: &mut Registers, image: &mut [u32], sheet: &[u8], at: usize) -> Opt
 {
     match sheet_entries::request_at(sheet, at) {
         Request::Rights(rights) => {
-            settings::set_default(s, rights);
+            let _ = settings::set_default(s, rights);
             None
         }
         Request::Whole { op, words } => {
             let mut buffer = sheet_entries::loaded(sheet, op, words);
-            let told = whole::run(s, image, op, &mut buffer);
+            let told = ToldBits::from(whole::run(s, image, op, &mut buffer));
             Some(Line {
                 answer: told.answer,
                 bits: told.bits,
@@ -112,7 +113,7 @@ pub fn bench_run(sheet: &[u8], row: &mut Row) -> Ran
 {
     let mut image = [ERASED; IMAGE_WORDS];
     let mut s: Registers = [0u32; registers::COUNT];
-    lifecycle::reset(&mut s, PAGES);
-    lifecycle::initialise(&mut s, &image);
+    let _ = lifecycle::reset(&mut s, PAGES);
+    let _ = lifecycle::initialise(&mut s, &image);
     run(&mut s, &mut image, sheet, row)
 }

@@ -1,8 +1,10 @@
 // A small controller, D = 10, through the public calls: what each answers, one line a call.
 #![tactic(auto)]
 
-use calls::{ToldAnswer, ToldHostWord, ToldSeeds, ToldStep, ToldWord};
-use model::{ByteAddress, ERASED, NO_DECIDER, Operation, PAGE_WORDS, Page, PageSetting, Region};
+use calls::Step;
+use model::{
+    Answer, ByteAddress, ERASED, Operation, PAGE_WORDS, Page, PageSetting, Refusal, Region, Seeds,
+};
 use registers::Registers;
 use std::{fmt, io};
 
@@ -44,76 +46,46 @@ fn data(kind: Kind, address: u32, count: u32) -> Operation {
 
 // ---- what the calls answer
 
-// An answer's number, and who decided, where the call names somebody.
+// An answer's number, and who decided, where it is 9.
 #[derive(Clone, Copy)]
-struct Answered {
-    number: u32,
-    decider: Option<u32>,
-}
+struct Answered(Answer);
 
-impl From<u32> for Answered {
-    fn from(number: u32) -> Self {
-        Answered {
-            number,
-            decider: None,
-        }
+impl From<Answer> for Answered {
+    fn from(answer: Answer) -> Self {
+        Answered(answer)
     }
 }
 
-impl From<ToldAnswer> for Answered {
-    fn from(told: ToldAnswer) -> Self {
-        let named = told.decider != u32::from(NO_DECIDER);
-        Answered {
-            number: told.answer,
-            decider: named.then_some(told.decider),
-        }
-    }
-}
-
-impl From<ToldSeeds> for Answered {
-    fn from(told: ToldSeeds) -> Self {
-        Answered::from(told.answer)
+impl From<Result<Option<Seeds>, Refusal>> for Answered {
+    fn from(initialised: Result<Option<Seeds>, Refusal>) -> Self {
+        Answered(initialised.map(|_| ()))
     }
 }
 
 impl fmt::Display for Answered {
     fn fmt<W: fmt::Write>(&self, f: &mut fmt::Formatter<W>) -> fmt::Result {
-        let number = self.number;
-        match self.decider {
-            Some(decider) => write!(f, "{number} by {decider}"),
-            None => write!(f, "{number}"),
+        write!(f, "{}", refusals::number_of(self.0))?;
+        match self.0 {
+            Err(Refusal::Denied(by)) => write!(f, " by {}", refusals::decider_number(by)),
+            _ => Ok(()),
         }
     }
 }
 
 // Of a pop, and of a host read.
 #[derive(Clone, Copy)]
-struct Fetched {
-    answer: Answered,
-    word: u32,
-}
+struct Fetched(Result<u32, Refusal>);
 
-impl From<ToldWord> for Fetched {
-    fn from(told: ToldWord) -> Self {
-        Fetched {
-            answer: Answered::from(told.answer),
-            word: told.word,
-        }
-    }
-}
-
-impl From<ToldHostWord> for Fetched {
-    fn from(told: ToldHostWord) -> Self {
-        Fetched {
-            answer: Answered::from(told.answer),
-            word: told.word,
-        }
+impl From<Result<u32, Refusal>> for Fetched {
+    fn from(fetched: Result<u32, Refusal>) -> Self {
+        Fetched(fetched)
     }
 }
 
 impl fmt::Display for Fetched {
     fn fmt<W: fmt::Write>(&self, f: &mut fmt::Formatter<W>) -> fmt::Result {
-        write!(f, "{} 0x{:08x}", self.answer, self.word)
+        let answer = Answered(self.0.map(|_| ()));
+        write!(f, "{answer} 0x{:08x}", self.0.unwrap_or(0))
     }
 }
 
@@ -123,11 +95,11 @@ struct Stepped {
     bits: u32,
 }
 
-impl From<ToldStep> for Stepped {
-    fn from(told: ToldStep) -> Self {
+impl From<Result<Step, Refusal>> for Stepped {
+    fn from(stepped: Result<Step, Refusal>) -> Self {
         Stepped {
-            answer: Answered::from(told.answer),
-            bits: told.bits,
+            answer: Answered(stepped.map(|_| ())),
+            bits: stepped.map_or(0, |step| step.bits),
         }
     }
 }

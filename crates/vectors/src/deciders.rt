@@ -19,7 +19,7 @@ fn view(rt: &impl Print, s: &Registers, page: u32) -> io::Result<()> {
     let mut refusal = 0u8;
     let mut decider = 0u8;
     let words = host::view(s, &image, Page(page), &mut refusal, &mut decider).len();
-    let answer = Answered::ruled(u32::from(refusal), u32::from(decider));
+    let answer = Answered::ruled(refusal, decider);
     println!(rt; "view of page {page}: {answer}, {words} words")
 }
 

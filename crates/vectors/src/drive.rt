@@ -1,7 +1,6 @@
 // Registers and an image, and operations run to their ends on them, by steps or as a whole.
 use super::asked::Asked;
 use super::given::{ONES, WORDS};
-use super::told;
 use super::told::{Answered, Completed, Stepped};
 use model::Operation;
 use registers::Registers;
@@ -71,7 +70,7 @@ impl Flash {
     }
 
     pub fn pop(&mut self) -> Option<u32> {
-        told::popped(queueing::pop(&mut self.registers))
+        queueing::pop(&mut self.registers).ok()
     }
 
     pub fn whole(&mut self, o: Asked, buffer: &mut [u32]) -> Completed {
@@ -86,7 +85,7 @@ impl Flash {
         if stepped.moves() {
             run.steps = run.steps.wrapping_add(1);
         }
-        run.bits = run.bits.wrapping_add(u64::from(stepped.bits));
+        run.bits = run.bits.wrapping_add(u64::from(stepped.bits()));
         if let Some(popped) = self.pop() {
             run.word = popped;
         }

@@ -1,9 +1,6 @@
 // What the calls tell, as the lines write it.
-use calls::{
-    ToldAnswer, ToldBits, ToldHostTurn, ToldHostWord, ToldRound, ToldSeeds, ToldStep, ToldStepTurn,
-    ToldWord,
-};
-use model::{Decider, Movement, Turn};
+use calls::{Side, Step};
+use model::{Answer, Decider, Movement, Refusal, Seeds};
 use std::fmt;
 
 // ---- answers
@@ -11,14 +8,14 @@ use std::fmt;
 // An answer's number, 0 where the call is accepted, and who decided where it is 9.
 #[derive(Clone, Copy)]
 pub struct Answered {
-    number: u32,
+    number: u8,
     decider: Option<Decider>,
 }
 
 // 255 names nobody.
-fn decider_of(number: u32) -> Option<Decider> {
+fn decider_of(number: u8) -> Option<Decider> {
     match number {
-        0..=7 => Some(Decider::Region(number as u8)),
+        0..=7 => Some(Decider::Region(number)),
         8 => Some(Decider::Default),
         9 => Some(Decider::PageSetting),
         10 => Some(Decider::SeedLock),
@@ -28,36 +25,23 @@ fn decider_of(number: u32) -> Option<Decider> {
 }
 
 impl Answered {
-    pub fn ruled(number: u32, decider: u32) -> Self {
+    pub fn ruled(number: u8, decider: u8) -> Self {
         Answered {
             number,
             decider: decider_of(decider),
         }
     }
+}
 
-    pub fn is_accepted(self) -> bool {
-        self.number == 0
+impl From<Answer> for Answered {
+    fn from(answer: Answer) -> Self {
+        Answered::ruled(refusals::number_of(answer), refusals::reported(answer))
     }
 }
 
-impl From<u32> for Answered {
-    fn from(number: u32) -> Self {
-        Answered {
-            number,
-            decider: None,
-        }
-    }
-}
-
-impl From<ToldAnswer> for Answered {
-    fn from(told: ToldAnswer) -> Self {
-        Answered::ruled(told.answer, told.decider)
-    }
-}
-
-impl From<ToldSeeds> for Answered {
-    fn from(told: ToldSeeds) -> Self {
-        Answered::from(told.answer)
+impl From<Result<Option<Seeds>, Refusal>> for Answered {
+    fn from(initialised: Result<Option<Seeds>, Refusal>) -> Self {
+        Answered::from(initialised.map(|_| ()))
     }
 }
 
@@ -79,77 +63,62 @@ impl fmt::Display for Answered {
 
 // Of a host read.
 #[derive(Clone, Copy)]
-pub struct Fetched {
-    answer: Answered,
-    word: u32,
-}
+pub struct Fetched(Result<u32, Refusal>);
 
-impl From<ToldHostWord> for Fetched {
-    fn from(told: ToldHostWord) -> Self {
-        Fetched {
-            answer: Answered::ruled(told.answer, told.decider),
-            word: told.word,
-        }
+impl From<Result<u32, Refusal>> for Fetched {
+    fn from(read: Result<u32, Refusal>) -> Self {
+        Fetched(read)
     }
 }
 
 impl fmt::Display for Fetched {
     fn fmt<W: fmt::Write>(&self, f: &mut fmt::Formatter<W>) -> fmt::Result {
-        write!(f, "{}, word 0x{:08x}", self.answer, self.word)
+        let answer = Answered::from(self.0.map(|_| ()));
+        write!(f, "{answer}, word 0x{:08x}", self.0.unwrap_or(0))
     }
-}
-
-// The word that a pop hands out, if there is one.
-pub fn popped(told: ToldWord) -> Option<u32> {
-    Answered::from(told.answer)
-        .is_accepted()
-        .then_some(told.word)
 }
 
 // ---- bits
 
 #[derive(Clone, Copy)]
-pub struct Stepped {
-    answer: Answered,
-    movement: Movement,
-    pub bits: u32,
-}
-
-fn movement_of(number: u32) -> Movement {
-    match number {
-        0 => Movement::None,
-        1 => Movement::Moved,
-        2 => Movement::Finished,
-        _ => Movement::Stalled,
-    }
-}
+pub struct Stepped(Result<Step, Refusal>);
 
 impl Stepped {
     // The last word moves too.
     pub fn moves(self) -> bool {
-        matches!(self.movement, Movement::Moved | Movement::Finished)
+        match self.0 {
+            Ok(step) => matches!(step.movement, Movement::Moved | Movement::Finished),
+            Err(_) => false,
+        }
+    }
+
+    pub fn bits(self) -> u32 {
+        match self.0 {
+            Ok(step) => step.bits,
+            Err(_) => 0,
+        }
     }
 }
 
-impl From<ToldStep> for Stepped {
-    fn from(told: ToldStep) -> Self {
-        Stepped {
-            answer: Answered::from(told.answer),
-            movement: movement_of(told.movement),
-            bits: told.bits,
-        }
+impl From<Result<Step, Refusal>> for Stepped {
+    fn from(stepped: Result<Step, Refusal>) -> Self {
+        Stepped(stepped)
     }
 }
 
 impl fmt::Display for Stepped {
     fn fmt<W: fmt::Write>(&self, f: &mut fmt::Formatter<W>) -> fmt::Result {
-        let movement = match self.movement {
-            Movement::None => "none",
-            Movement::Moved => "moved",
-            Movement::Finished => "finished",
-            Movement::Stalled => "stalled",
-        };
-        write!(f, "{}, {movement}, {} bits", self.answer, self.bits)
+        match self.0 {
+            Ok(step) => {
+                let movement = match step.movement {
+                    Movement::Moved => "moved",
+                    Movement::Finished => "finished",
+                    Movement::Stalled => "stalled",
+                };
+                write!(f, "0, {movement}, {} bits", step.bits)
+            }
+            Err(refusal) => write!(f, "{}, none, 0 bits", Answered::from(Err(refusal))),
+        }
     }
 }
 
@@ -160,85 +129,37 @@ pub struct Completed {
     pub bits: u32,
 }
 
-impl From<ToldBits> for Completed {
-    fn from(told: ToldBits) -> Self {
+impl From<Result<u32, Refusal>> for Completed {
+    fn from(bits: Result<u32, Refusal>) -> Self {
         Completed {
-            answer: Answered::ruled(told.answer, told.decider),
-            bits: told.bits,
+            answer: Answered::from(bits.map(|_| ())),
+            bits: bits.unwrap_or(0),
         }
     }
 }
 
 // ---- rounds
 
-// One side of a round: whether it was served, and what its call told.
 #[derive(Clone, Copy)]
-struct Side<T> {
-    turn: Turn,
-    told: T,
-}
+pub struct Round(calls::Round);
 
-fn turn_of(number: u32) -> Turn {
-    match number {
-        0 => Turn::Unasked,
-        1 => Turn::Waiting,
-        _ => Turn::Served,
-    }
-}
-
-impl From<ToldHostTurn> for Side<Fetched> {
-    fn from(told: ToldHostTurn) -> Self {
-        Side {
-            turn: turn_of(told.turn),
-            told: Fetched {
-                answer: Answered::ruled(told.answer, told.decider),
-                word: told.word,
-            },
-        }
-    }
-}
-
-impl From<ToldStepTurn> for Side<Stepped> {
-    fn from(told: ToldStepTurn) -> Self {
-        Side {
-            turn: turn_of(told.turn),
-            told: Stepped {
-                answer: Answered::from(told.answer),
-                movement: movement_of(told.movement),
-                bits: told.bits,
-            },
-        }
-    }
-}
-
-impl<T: fmt::Display> fmt::Display for Side<T> {
-    fn fmt<W: fmt::Write>(&self, f: &mut fmt::Formatter<W>) -> fmt::Result {
-        let turn = match self.turn {
-            Turn::Unasked => "unasked",
-            Turn::Waiting => "waiting",
-            Turn::Served => "served",
-        };
-        write!(f, "{turn} {}", self.told)
-    }
-}
-
-#[derive(Clone, Copy)]
-pub struct Round {
-    host: Side<Fetched>,
-    step: Side<Stepped>,
-}
-
-impl From<ToldRound> for Round {
-    fn from(told: ToldRound) -> Self {
-        Round {
-            host: Side::from(told.host),
-            step: Side::from(told.step),
-        }
+impl From<calls::Round> for Round {
+    fn from(round: calls::Round) -> Self {
+        Round(round)
     }
 }
 
 impl fmt::Display for Round {
     fn fmt<W: fmt::Write>(&self, f: &mut fmt::Formatter<W>) -> fmt::Result {
-        write!(f, "host {}; step {}", self.host, self.step)
+        match self.0.host {
+            Side::Unasked => write!(f, "host unasked {}", Fetched(Ok(0)))?,
+            Side::Waiting => write!(f, "host waiting {}", Fetched(Ok(0)))?,
+            Side::Served(read) => write!(f, "host served {}", Fetched(read))?,
+        }
+        match self.0.step {
+            Side::Unasked => write!(f, "; step unasked 0, none, 0 bits"),
+            Side::Waiting => write!(f, "; step waiting 0, stalled, 0 bits"),
+            Side::Served(stepped) => write!(f, "; step served {}", Stepped(stepped)),
+        }
     }
 }

@@ -2,7 +2,7 @@
 use super::asked::{Asked, Kind, data};
 use super::drive::Flash;
 use super::told::Round;
-use model::{ByteAddress, HostRequest};
+use model::ByteAddress;
 use registers::Registers;
 use std::{fmt, io};
 
@@ -51,10 +51,7 @@ impl fmt::Display for Askers {
 }
 
 pub fn round(rt: &impl Print, flash: &mut Flash, askers: Askers) -> io::Result<()> {
-    let request = match askers.host {
-        Some(at) => HostRequest::Word(ByteAddress(at)),
-        None => HostRequest::Nothing,
-    };
+    let request = askers.host.map(ByteAddress);
     let s = &mut flash.registers;
     let told = Round::from(rounds::round(s, &mut flash.image, request, askers.step));
     let bank_0 = registers::lost(&flash.registers, 0);

@@ -21,6 +21,7 @@ use registers::Registers;
 // ---- checks 1 to 4, and 6
 
 // Of a whole operation 4 also applies if a queue holds a word.
+#[tactic(auto, using(crate::proofs::Completed::unready))]
 pub fn whole_answer(s: &Registers, image: &[u32]) -> Answer
     ensures { result ≡ whole_answer (decode s.now) (flash image.now) }
 {
@@ -98,6 +99,7 @@ fn answered(
 }
 
 // 6 comes after 5, since a malformed operation does not come to it, and before 7, 8 and 9.
+#[tactic(auto, using(crate::proofs::Completed::run_refused, crate::proofs::Completed::run_short, model::proofs::Answers::check_passed))]
 pub fn run(
     s: &mut Registers,
     image: &mut [u32],
