@@ -1,5 +1,5 @@
 -- What a start leaves, by the tests that it makes. Assumes nothing.
-use Rattle.std.specs.Prelude.{None, Some}
+use Rattle.std.specs.Prelude.{None, Some, Err}
 use Prim.Native.Nat.{ℕ, ◌≤◌}
 use mathlib.Core.Path.{◌≡◌, refl, ap, sym, subst, ◌∙◌}
 use mathlib.Core.Bool.{Bool, true, false, cond}
@@ -8,19 +8,20 @@ use lib.ListN.{get_or}
 use Rattle.model.specs.Kinds.{is_read, is_program}
 use Rattle.model.specs.State.{is_busy}
 use Rattle.model.specs.Valid.{valid}
-use Rattle.model.specs.Refusals.{accepts, ready_answer, number_of, check, or_else}
+use Rattle.model.specs.Refusals.{accepted, accepts, ready_answer, number_of, check, or_else}
 use Rattle.model.specs.Rights.{readable_words}
 use Rattle.model.specs.Errors.{is_recorded, recorded, error_address}
 use Rattle.model.specs.Checks.{operation_answer}
 use Rattle.model.specs.Steps.{start_answer, starts, progress_after, started}
 use Rattle.model.specs.Refusals.{Answer}
+use Rattle.model.specs.declared.Refusal.{Refusal}
 use Rattle.model.specs.declared.Refusal.TheVariants.{Busy}
 use Rattle.model.specs.declared.Operation.{Operation}
 use Rattle.model.specs.declared.Work.{Work}
 use Rattle.model.specs.declared.Setup.{Setup}
 use Rattle.model.specs.declared.Controller.{Controller}
 use Rattle.model.proofs.Bool.{by_test}
-use Rattle.model.proofs.Answers.{both_accept, check_passed, unrecorded, recorded_if_refused}
+use Rattle.model.proofs.Answers.{both_accept, check_passed, refused_first, unrecorded, recorded_if_refused}
 use Rattle.model.proofs.StepLaws.{start_goes_on, start_stops}
 use Rattle.model.proofs.Order.{pages_bound}
 use Rattle.model.proofs.Accepting.{ready_valid}
@@ -42,6 +43,13 @@ start_asked s =
     ap (λ (c : Controller). or_else (ready_answer (valid (decode s)) (decode s).phase) (check (is_busy c.progress) Busy))
     (sym (taken_stands s t)))
     (λ t. rw t)
+
+pub start_unready : (s : List ℕ) {e : Refusal} → ready_answer (valid (decode s)) (decode s).phase ≡ Err e → Err e ≡ start_answer (decode s)
+unfolding start_answer
+start_unready s h = refused_first _ h
+
+pub start_ready : (s : List ℕ) → ready_answer (valid (decode s)) (decode s).phase ≡ accepted → check (is_busy (progress_at s)) Busy ≡ start_answer (decode s)
+start_ready s h = rw h at (start_asked s)
 
 -- ---- what starts is in progress
 
@@ -80,18 +88,16 @@ changes_answered : (x : Setup) (o : Operation) → changes (operation_answer x o
 changes_answered x o =
     by_test (accepts (operation_answer x o)) (λ t. rw t) (λ t. rw (t, recorded_if_refused x o t))
 
-module _ (s : List ℕ) (o : Operation) (first : Answer) (asked : first ≡ start_answer (decode s)) where
+module _ (s : List ℕ) (o : Operation) where
   -- Checks 1 to 4 refuse,
-  pub start_early : accepts first ≡ false → record { told = told_answer first; registers = s } ≡ start_in s o
+  pub start_early : {e : Refusal} → start_answer (decode s) ≡ Err e → record { told = told_answer (Err e); registers = s } ≡ start_in s o
   unfolding start_in
-  start_early h =
-      let refused : accepts (start_answer (decode s)) ≡ false = rw asked at h in
-      rw (start_stops (decode s) o refused, asked, refused, not_recorded (decode s))
+  start_early h = rw (start_stops (decode s) o (rw h), h, rw h at (not_recorded (decode s)))
 
   -- or pass: checks 5, 7, 8 and 9 answer.
-  module _ (h : accepts first ≡ true) where
+  module _ (h : start_answer (decode s) ≡ accepted) where
     passed : accepts (start_answer (decode s)) ≡ true
-    passed = rw asked at h
+    passed = rw h
 
     fits : valid (decode s) ≡ true
     unfolding start_answer
@@ -104,7 +110,7 @@ module _ (s : List ℕ) (o : Operation) (first : Answer) (asked : first ≡ star
     unfolding start_answer
     idle = check_passed _ Busy (both_accept (ready_answer (valid (decode s)) (decode s).phase) _ passed).1
 
-    module _ (a : Answer) (answered : a ≡ operation_answer (stands_for s).setup o) where
+    module _ {a : Answer} (answered : a ≡ operation_answer (stands_for s).setup o) where
       pub start_begins : Begins s o a
       start_begins = record {
         encodes = valid_encoded s fits;
@@ -112,8 +118,8 @@ module _ (s : List ℕ) (o : Operation) (first : Answer) (asked : first ≡ star
         answered = record { answered = answered; pages = subst (λ (c : Controller). (10 ≤ c.setup.pages) × (c.setup.pages ≤ 256)) same (pages_bound (decode s) fits) };
       }
 
-      pub start_goes : record { told = told_answer a; registers = put s (started (stands_for s) o a).controller } ≡ start_in s o
+      pub start_goes : {t : List ℕ} → t ≡ put s (started (stands_for s) o a).controller → record { told = told_answer a; registers = t } ≡ start_in s o
       unfolding start_in
-      start_goes =
+      start_goes u =
           let stands : accepts (start_answer (stands_for s)) ≡ true = subst (λ (c : Controller). accepts (start_answer c) ≡ true) same passed in
-          rw (same, start_goes_on (stands_for s) o stands, answered, changes_answered (stands_for s).setup o)
+          rw (u, same, start_goes_on (stands_for s) o stands, answered, changes_answered (stands_for s).setup o)

@@ -13,6 +13,7 @@ use model::{Answer, Operation, Refusal};
 use registers::Registers;
 
 // Checks 1 to 4.
+#[tactic(auto, using(crate::proofs::Left::start_unready, crate::proofs::Left::start_ready))]
 fn start_answer(s: &Registers) -> Answer
     ensures { result ≡ start_answer (decode s.now) }
 {
@@ -29,6 +30,7 @@ fn starts(o: Operation, answer: Answer) -> bool
 }
 
 // How many words of what starts are readable; 0 unless it reads.
+#[tactic(auto, using(model::proofs::DeniedReads::started_asked, model::proofs::DeniedReads::readable_by_answer))]
 fn readable(s: &Registers, o: Operation, answer: Answer) -> u32
     requires { Begins s.now o answer × (starts o answer ≡ true) }
     ensures { result ≡ cond (is_read o) (readable_words (stands_for s.now).setup o) 0 }
@@ -40,6 +42,7 @@ fn readable(s: &Registers, o: Operation, answer: Answer) -> u32
 }
 
 // What starts is in progress.
+#[tactic(auto, using(crate::proofs::Left::begin_starts, crate::proofs::Left::begin_stays))]
 fn begin(s: &mut Registers, o: Operation, answer: Answer)
     requires { Begins s.old o answer }
     ensures { s.new ≡ put_progress s.old (progress_after (stands_for s.old) o answer) }
@@ -51,6 +54,7 @@ fn begin(s: &mut Registers, o: Operation, answer: Answer)
 }
 
 // What checks 5, 7, 8 and 9 leave: a refusal is recorded, and what starts is in progress.
+#[tactic(auto, using(crate::proofs::Left::begin_records))]
 fn started(s: &mut Registers, o: Operation, answer: Answer)
     requires { Begins s.old o answer }
     ensures { s.new ≡ put s.old (started (stands_for s.old) o answer).controller }
@@ -60,6 +64,7 @@ fn started(s: &mut Registers, o: Operation, answer: Answer)
     registers::put_errors(s, errors);
 }
 
+#[tactic(auto, using(crate::proofs::Left::start_early))]
 pub fn start(s: &mut Registers, o: Operation) -> Answer
     ensures { record { told = told_answer result; registers = s.new } ≡ start_in s.old o }
 {

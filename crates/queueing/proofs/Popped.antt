@@ -1,13 +1,18 @@
 -- What a pop leaves, by the tests that it makes. Assumes nothing.
+use Rattle.std.specs.Prelude.{Err}
 use Prim.Native.Nat.{ℕ, ◌<◌, ◌≤◌}
 use native.Mathlib.Omega.{arith}
 use mathlib.Core.Path.{◌≡◌, refl, ap, sym, subst, ◌∙◌}
-use mathlib.Core.Bool.{true, false}
+use mathlib.Core.Bool.{true, false, not}
 use mathlib.Core.List.{List}
-use borrow.Author.Tests.{eqb-false}
+use borrow.Author.Tests.{eqb-false, not-false}
 use Rattle.model.specs.Valid.{valid}
 use Rattle.model.specs.Queue.{is_empty, oldest, popped}
+use Rattle.model.specs.Refusals.{accepted, check, refusal_number}
+use Rattle.model.specs.declared.Refusal.{Refusal}
+use Rattle.model.specs.declared.Refusal.TheVariants.{Invalid, QueueEmpty}
 use Rattle.model.specs.Steps.{pop, pop_answer}
+use Rattle.model.proofs.Answers.{refused_first, check_passed}
 use Rattle.model.specs.declared.Controller.{Controller}
 use Rattle.model.proofs.Moving.{queue_bounds}
 use Rattle.model.proofs.QueueLaws.{pop_keeps_its_places}
@@ -18,11 +23,14 @@ use Rattle.registers.proofs.Written.{put_reads}
 use Rattle.calls.specs.Calls.{word_left, pop_in}
 use Rattle.validity.proofs.Taken.{taken_stands}
 
-pub pop_invalid : (s : List ℕ) → valid (decode s) ≡ false → record { told = record { answer = 1; word = 0 }; registers = s } ≡ pop_in s
+pub pop_invalid : (s : List ℕ) {e : Refusal} → check (not (valid (decode s))) Invalid ≡ Err e → record { told = record { answer = refusal_number e; word = 0 }; registers = s } ≡ pop_in s
 unfolding pop_in pop pop_answer
-pop_invalid s h = simp h
+pop_invalid s h = rw (sym (refused_first (check (is_empty (decode s).queues.reads) QueueEmpty) h))
 
-module _ (s : List ℕ) (h : valid (decode s) ≡ true) where
+module _ (s : List ℕ) (passed : check (not (valid (decode s))) Invalid ≡ accepted) where
+  h : valid (decode s) ≡ true
+  h = not-false _ (check_passed _ Invalid (rw passed))
+
   same : decode s ≡ stands_for s
   same = taken_stands s h
 
@@ -33,26 +41,30 @@ module _ (s : List ℕ) (h : valid (decode s) ≡ true) where
   unfolding stands_for
   reads_bound = (queue_bounds (stands_for s) fits).0
 
-  pub reads_some : is_empty (queue_at s reads_from) ≡ false → (0 < (queue_at s reads_from).len) × ((queue_at s reads_from).len ≤ 16)
-  reads_some e = (omega (arith, eqb-false (queue_at s reads_from).len 0 e), reads_bound)
-
   by_pop : word_left s (pop (stands_for s)) ≡ pop_in s
   unfolding pop_in
   by_pop = ap (λ (c : Controller). word_left s (pop c)) (sym same)
 
-  none : is_empty (queue_at s reads_from) ≡ true → record { told = record { answer = 10; word = 0 }; registers = s } ≡ word_left s (pop (stands_for s))
+  none : {e : Refusal} → check (is_empty (queue_at s reads_from)) QueueEmpty ≡ Err e → record { told = record { answer = refusal_number e; word = 0 }; registers = s } ≡ word_left s (pop (stands_for s))
   unfolding pop pop_answer stands_for
-  none e = simp (fits, e)
+  none e = rw (fits, e)
 
-  some : is_empty (queue_at s reads_from) ≡ false
-      → record { told = record { answer = 0; word = oldest (queue_at s reads_from) }; registers = put_queue s reads_from (popped (queue_at s reads_from)) } ≡ word_left s (pop (stands_for s))
-  unfolding pop pop_answer stands_for
-  some e =
-      simp (fits, e, put_reads s (valid_encoded s h) (popped (queue_at s reads_from)) (pop_keeps_its_places (queue_at s reads_from) reads_bound refl))
-
-  pub pop_none : is_empty (queue_at s reads_from) ≡ true → record { told = record { answer = 10; word = 0 }; registers = s } ≡ pop_in s
+  pub pop_none : {e : Refusal} → check (is_empty (queue_at s reads_from)) QueueEmpty ≡ Err e
+      → record { told = record { answer = refusal_number e; word = 0 }; registers = s } ≡ pop_in s
   pop_none e = none e ∙ by_pop
 
-  pub pop_takes : is_empty (queue_at s reads_from) ≡ false
-      → record { told = record { answer = 0; word = oldest (queue_at s reads_from) }; registers = put_queue s reads_from (popped (queue_at s reads_from)) } ≡ pop_in s
-  pop_takes e = some e ∙ by_pop
+  module _ (holds : check (is_empty (queue_at s reads_from)) QueueEmpty ≡ accepted) where
+    held : is_empty (queue_at s reads_from) ≡ false
+    held = check_passed _ QueueEmpty (rw holds)
+
+    pub reads_some : (0 < (queue_at s reads_from).len) × ((queue_at s reads_from).len ≤ 16)
+    reads_some = (omega (arith, eqb-false (queue_at s reads_from).len 0 held), reads_bound)
+
+    some : record { told = record { answer = 0; word = oldest (queue_at s reads_from) }; registers = put_queue s reads_from (popped (queue_at s reads_from)) } ≡ word_left s (pop (stands_for s))
+    unfolding pop pop_answer stands_for
+    some =
+        simp (fits, held, put_reads s (valid_encoded s h) (popped (queue_at s reads_from)) (pop_keeps_its_places (queue_at s reads_from) reads_bound refl))
+
+    pub pop_takes : {w : ℕ} {t : List ℕ} → w ≡ oldest (queue_at s reads_from) → t ≡ put_queue s reads_from (popped (queue_at s reads_from))
+        → record { told = record { answer = 0; word = w }; registers = t } ≡ pop_in s
+    pop_takes e u = rw (e, u) (some ∙ by_pop)

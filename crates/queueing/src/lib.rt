@@ -18,6 +18,7 @@ fn pushed_all(count: u32, moved: u32, queued: u32) -> bool
 }
 
 // Checks 1, 2, 3, 12 and 11.
+#[tactic(auto, using(crate::proofs::Pushed::push_early, crate::proofs::Pushed::push_idle, crate::proofs::Pushed::push_other, crate::proofs::Pushed::push_all, crate::proofs::Pushed::push_full, crate::proofs::Pushed::push_joins))]
 pub fn push(s: &mut Registers, word: u32) -> Answer
     ensures { record { told = number_of result; registers = s.new } ≡ push_in s.old word }
 {
@@ -26,7 +27,10 @@ pub fn push(s: &mut Registers, word: u32) -> Answer
         return Err(Refusal::Unexpected);
     };
     let programs = registers::programs(s);
-    refusals::check(pushed_all(op.count, moved, programs.len), Refusal::Unexpected)?;
+    refusals::check(
+        pushed_all(op.count, moved, programs.len),
+        Refusal::Unexpected,
+    )?;
     refusals::check(queue::is_full(programs), Refusal::QueueFull)?;
     registers::put_programs(s, queue::push(programs, word));
     Ok(())
@@ -35,6 +39,7 @@ pub fn push(s: &mut Registers, word: u32) -> Answer
 // ---- pop
 
 // Checks 1 and 10.
+#[tactic(auto, using(crate::proofs::Popped::pop_invalid, crate::proofs::Popped::pop_none, crate::proofs::Popped::pop_takes, crate::proofs::Popped::reads_some))]
 pub fn pop(s: &mut Registers) -> Result<u32, Refusal>
     ensures { record { told = told_word result; registers = s.new } ≡ pop_in s.old }
 {
