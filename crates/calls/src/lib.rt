@@ -267,12 +267,12 @@ impl From<Result<u32, Refusal>> for ToldWord {
 impl From<Result<u32, Refusal>> for ToldHostWord {
     ghost from_gives = { λ a r. r ≡ told_host_word (answer_of a) (or_zero a) };
 
-    fn from(fetched: Result<u32, Refusal>) -> ToldHostWord {
-        let answer = fetched.map(|_| ());
+    fn from(read: Result<u32, Refusal>) -> ToldHostWord {
+        let answer = read.map(|_| ());
         ToldHostWord {
             answer: number(answer),
             decider: decider(answer),
-            word: fetched.unwrap_or(0),
+            word: read.unwrap_or(0),
         }
     }
 }

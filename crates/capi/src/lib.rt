@@ -26,14 +26,14 @@ use scans::{ToldScan, ToldWrite};
 pub extern "C" fn lurgabel_layout4_reset(s: &mut Registers, pages: u32) -> u32
     ensures { record { told = result; registers = s.new } ≡ reset_in s.old pages }
 {
-    lifecycle::reset(s, pages)
+    calls::number(lifecycle::reset(s, pages))
 }
 
 #[unsafe(no_mangle)]
 pub extern "C" fn lurgabel_layout4_set_inputs(s: &mut Registers, provision: u32, locked: u32) -> u32
     ensures { record { told = result; registers = s.new } ≡ set_inputs_in s.old (inputs_of provision locked) }
 {
-    inputs::set_inputs(s, calls::inputs(provision, locked))
+    calls::number(inputs::set_inputs(s, calls::inputs(provision, locked)))
 }
 
 #[unsafe(no_mangle)]
@@ -44,14 +44,14 @@ pub extern "C" fn lurgabel_layout4_set_region(
 ) -> u32
     ensures { record { told = result; registers = s.new } ≡ set_region_in s.old number (region_of region) }
 {
-    settings::set_region(s, number, calls::region(region))
+    calls::number(settings::set_region(s, number, region.into()))
 }
 
 #[unsafe(no_mangle)]
 pub extern "C" fn lurgabel_layout4_set_default_rights(s: &mut Registers, rights: u32) -> u32
     ensures { record { told = result; registers = s.new } ≡ set_default_in s.old (byte_of rights) }
 {
-    settings::set_default(s, calls::byte(rights))
+    calls::number(settings::set_default(s, calls::byte(rights)))
 }
 
 #[unsafe(no_mangle)]
@@ -64,21 +64,21 @@ pub extern "C" fn lurgabel_layout4_set_info_page(
 ) -> u32
     ensures { record { told = result; registers = s.new } ≡ set_info_in s.old bank (byte_of info) page (setting_of setting) }
 {
-    settings::set_info(s, bank, calls::byte(info), page, calls::setting(setting))
+    calls::number(settings::set_info(s, bank, calls::byte(info), page, setting.into()))
 }
 
 #[unsafe(no_mangle)]
 pub extern "C" fn lurgabel_layout4_set_bank_erase(s: &mut Registers, bank: u32, on: u32) -> u32
     ensures { record { told = result; registers = s.new } ≡ set_erase_in s.old bank (is_on on) }
 {
-    settings::set_erase(s, bank, calls::flag(on))
+    calls::number(settings::set_erase(s, bank, calls::flag(on)))
 }
 
 #[unsafe(no_mangle)]
 pub extern "C" fn lurgabel_layout4_clear_errors(s: &mut Registers) -> u32
     ensures { record { told = result; registers = s.new } ≡ clear_in s.old }
 {
-    inputs::clear(s)
+    calls::number(inputs::clear(s))
 }
 
 // ---- initialise and RMA
@@ -87,14 +87,14 @@ pub extern "C" fn lurgabel_layout4_clear_errors(s: &mut Registers) -> u32
 pub extern "C" fn lurgabel_layout4_initialise(s: &mut Registers, image: &[u32]) -> ToldSeeds
     ensures { record { told = result; registers = s.new } ≡ initialise_in s.old (flash image.now) }
 {
-    lifecycle::initialise(s, image)
+    lifecycle::initialise(s, image).into()
 }
 
 #[unsafe(no_mangle)]
 pub extern "C" fn lurgabel_layout4_rma(s: &mut Registers, image: &mut [u32]) -> u32
     ensures { record { told = result; registers = s.new; flash = flash image.new } ≡ rma_in s.old (flash image.old) }
 {
-    lifecycle::rma(s, image)
+    calls::number(lifecycle::rma(s, image))
 }
 
 // ---- operations by steps
@@ -103,28 +103,28 @@ pub extern "C" fn lurgabel_layout4_rma(s: &mut Registers, image: &mut [u32]) -> 
 pub extern "C" fn lurgabel_layout4_start(s: &mut Registers, operation: AskedOperation) -> ToldAnswer
     ensures { record { told = result; registers = s.new } ≡ start_in s.old (operation_of operation) }
 {
-    operations::start(s, calls::operation(operation))
+    operations::start(s, operation.into()).into()
 }
 
 #[unsafe(no_mangle)]
 pub extern "C" fn lurgabel_layout4_step(s: &mut Registers, image: &mut [u32]) -> ToldStep
     ensures { record { told = result; registers = s.new; flash = flash image.new } ≡ step_in s.old (flash image.old) }
 {
-    steps::step(s, image)
+    steps::step(s, image).into()
 }
 
 #[unsafe(no_mangle)]
 pub extern "C" fn lurgabel_layout4_push(s: &mut Registers, word: u32) -> u32
     ensures { record { told = result; registers = s.new } ≡ push_in s.old word }
 {
-    queueing::push(s, word)
+    calls::number(queueing::push(s, word))
 }
 
 #[unsafe(no_mangle)]
 pub extern "C" fn lurgabel_layout4_pop(s: &mut Registers) -> ToldWord
     ensures { record { told = result; registers = s.new } ≡ pop_in s.old }
 {
-    queueing::pop(s)
+    queueing::pop(s).into()
 }
 
 // ---- whole operations
@@ -138,7 +138,7 @@ pub extern "C" fn lurgabel_layout4_run(
 ) -> ToldBits
     ensures { record { told = result; registers = s.new; flash = flash image.new; buffer = buffer.new } ≡ whole_in s.old (flash image.old) (operation_of operation) buffer.old }
 {
-    whole::run(s, image, calls::operation(operation), buffer)
+    whole::run(s, image, operation.into(), buffer).into()
 }
 
 // For at most so many steps.
@@ -152,7 +152,7 @@ pub extern "C" fn lurgabel_layout4_run_for(
 ) -> Driven
     ensures { record { told = result; registers = s.new; flash = flash image.new; buffer = buffer.new } ≡ driven_in steps s.old (flash image.old) (operation_of operation) buffer.old }
 {
-    driving::drive(s, image, calls::operation(operation), buffer, steps)
+    driving::drive(s, image, operation.into(), buffer, steps)
 }
 
 // ---- the host
@@ -165,14 +165,14 @@ pub extern "C" fn lurgabel_layout4_host_read(
 ) -> ToldHostWord
     ensures { result ≡ host_read_in s.now (flash image.now) (record { 0 = address }) }
 {
-    host::host_read(s, image, ByteAddress(address))
+    host::host_read(s, image, ByteAddress(address)).into()
 }
 
 #[unsafe(no_mangle)]
 pub extern "C" fn lurgabel_layout4_view(s: &Registers, image: &[u32], page: u32) -> ToldStart
     ensures { result ≡ view_in s.now (flash image.now) (record { 0 = page }) }
 {
-    host::view_start(s, image, Page(page))
+    host::view_start(s, image, Page(page)).into()
 }
 
 // ---- turns of host and step
@@ -188,7 +188,7 @@ pub extern "C" fn lurgabel_layout4_round(
     ensures { record { told = result; registers = s.new; flash = flash image.new } ≡ round_in s.old (flash image.old) (host_request_of host address) (is_on step) }
 {
     let asked = calls::host_request(host, address);
-    rounds::round(s, image, asked, calls::flag(step))
+    rounds::round(s, image, asked, calls::flag(step)).into()
 }
 
 // ---- the scan queue, for at most so many steps

@@ -1,4 +1,5 @@
 -- An operation by its calls, by the tests that the code makes. Assumes nothing.
+use Rattle.std.specs.Prelude.{Err}
 use Prim.Native.Nat.{ℕ, ◌-◌, ◌≤◌, ◌<◌, min}
 use native.Mathlib.Omega.{arith}
 use mathlib.Core.Path.{◌≡◌, refl, ap, subst}
@@ -40,7 +41,7 @@ module _ (steps : ℕ) (s : List ℕ) (f : Flash) (o : Operation) (b : List ℕ)
 
   module _ (free : accepts (whole_answer (decode s) f) ≡ true) where
     -- or by 6, it changes nothing.
-    pub drive_short : short_buffer o b ≡ true → stays ShortBuffer steps s f b ≡ driven_in steps s f o b
+    pub drive_short : short_buffer o b ≡ true → stays (Err ShortBuffer) steps s f b ≡ driven_in steps s f o b
     unfolding driven_in
     drive_short h = rw (free, h) refl
 

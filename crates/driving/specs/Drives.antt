@@ -1,5 +1,5 @@
 -- A whole operation for at most so many steps, by the calls on registers. (plans/specs/Limited.antt has it on the controller.)
-use Rattle.std.specs.Prelude.{ℕ, zero, suc, ◌+◌, ◌-◌, ◌≤◌, min, ◌≡◌, Bool, true, ◌||◌, cond, List, ltb, eqb, length, get_or, set}
+use Rattle.std.specs.Prelude.{ℕ, zero, suc, ◌+◌, ◌-◌, ◌≤◌, min, ◌≡◌, Bool, true, ◌||◌, cond, List, ltb, eqb, length, get_or, set, Err}
 use Rattle.model.specs.Kinds.{is_read, is_program, uses_count}
 use Rattle.model.specs.Places.{total_words}
 use Rattle.model.specs.State.{Flash}
@@ -112,5 +112,5 @@ stays a steps s f b = record { told = unmoved (number_of a) (reported a) steps; 
 unfoldable pub driven_in : ℕ → List ℕ → Flash → Operation → List ℕ → LeftBuffer Driven
 driven_in steps s f o b =
     cond (accepts (whole_answer (decode s) f))
-    (cond (short_buffer o b) (stays ShortBuffer steps s f b) (driven_from_in steps (setup_of s).pages o (start_in s o) f b))
+    (cond (short_buffer o b) (stays (Err ShortBuffer) steps s f b) (driven_from_in steps (setup_of s).pages o (start_in s o) f b))
     (stays (whole_answer (decode s) f) steps s f b)

@@ -7,7 +7,8 @@ ghost use Rattle.model.specs.State.{flash};
 ghost use Rattle.model.specs.Refusals.{number_of, reported};
 ghost use Rattle.driving.specs.Drives.{stepped_bits, stepped_in, with_pushed_in, with_popped_in, turn_in, turns_in, Room, starts_by, driven_in};
 
-use model::{Answer, Operation};
+use calls::{ToldAnswer, ToldStep, ToldWord};
+use model::{Answer, Operation, Refusal};
 use registers::Registers;
 
 // What is told: the answer and who decided, the bits changed, the steps left, and whether the power was cut.
@@ -26,8 +27,8 @@ fn stepped(s: &mut Registers, image: &mut [u32], bits: u32) -> u32
     requires { bits + 32 < 4294967296 }
     ensures { (record { registers = s.new; flash = flash image.new; bits = result } ≡ stepped_bits s.old (flash image.old) bits) × (result ≤ bits + 32) }
 {
-    let told = steps::step(s, image);
-    bits + told.bits
+    let stepped = steps::step(s, image);
+    bits + ToldStep::from(stepped).bits
 }
 
 // The calls for word `k`: of a read step and pop,
@@ -36,8 +37,8 @@ fn read_turn(s: &mut Registers, image: &mut [u32], buffer: &mut [u32], k: usize,
     ensures { (record { registers = s.new; flash = flash image.new; buffer = buffer.new; bits = result } ≡ with_popped_in k (stepped_in (record { registers = s.old; flash = flash image.old; buffer = buffer.old; bits = bits }))) × (result ≤ bits + 32) }
 {
     let sum = stepped(s, image, bits);
-    let told = queueing::pop(s);
-    buffer[k] = told.word;
+    let popped = queueing::pop(s);
+    buffer[k] = ToldWord::from(popped).word;
     sum
 }
 
@@ -78,34 +79,27 @@ fn turns(s: &mut Registers, image: &mut [u32], o: Operation, buffer: &mut [u32],
     ensures { record { registers = s.new; flash = flash image.new; buffer = buffer.new; bits = result } ≡ turns_in o n (record { registers = s.old; flash = flash image.old; buffer = buffer.old; bits = 0 }) }
 {
     let mut bits: u32 = 0;
-    let mut k: u32 = 0;
-    while k < n {
+    for k in 0..n {
         bits = turn(s, image, o, buffer, k as usize, bits);
-        k += 1;
     }
     bits
 }
 
 // An accepted operation starts, and so does a denied read.
-fn starts(o: Operation, answer: u32) -> bool
-    ensures { result ≡ starts_by o answer }
+fn starts(o: Operation, answer: Answer) -> bool
+    ensures { result ≡ starts_by o (number_of answer) }
 {
     let read = places::is_read(o);
-    let accepted = answer == 0;
-    let denied = answer == 9;
+    let number = refusals::number_of(answer);
+    let accepted = number == 0;
+    let denied = number == 9;
     accepted | (read & denied)
-}
-
-fn fewer(a: u32, b: u32) -> u32
-    ensures { result ≡ min a b }
-{
-    if a < b { a } else { b }
 }
 
 fn unmoved(answer: Answer, steps: u32) -> Driven
     ensures { result ≡ record { answer = number_of answer; decider = reported answer; bits = 0; left = steps; cut = 0 } }
 {
-    let told = calls::told(answer);
+    let told = ToldAnswer::from(answer);
     Driven {
         answer: told.answer,
         decider: told.decider,
@@ -130,21 +124,16 @@ pub fn drive(
         return unmoved(first, steps);
     }
     if whole::short_buffer(o, buffer) {
-        return unmoved(Answer::ShortBuffer, steps);
+        return unmoved(Err(Refusal::ShortBuffer), steps);
     }
     let d = registers::pages(s);
-    let told = operations::start(s, o);
-    if !starts(o, told.answer) {
-        return Driven {
-            answer: told.answer,
-            decider: told.decider,
-            bits: 0,
-            left: steps,
-            cut: 0,
-        };
+    let answer = operations::start(s, o);
+    if !starts(o, answer) {
+        return unmoved(answer, steps);
     }
+    let told = ToldAnswer::from(answer);
     let total = places::total_words(d, o) as u32;
-    let n = fewer(steps, total);
+    let n = steps.min(total);
     let bits = turns(s, image, o, buffer, n);
     Driven {
         answer: told.answer,

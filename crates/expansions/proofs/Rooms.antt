@@ -8,9 +8,8 @@ use lib.ListN.{length, length-append}
 use lib.Dec.{ltb, eqb}
 use borrow.Author.Tests.{eqb-false, ne_eqb, ltb-true}
 use Rattle.model.proofs.Bool.{by_test}
-use Rattle.numbers.specs.declared.Parsed.{Parsed}
-use Rattle.numbers.specs.declared.Parsed.TheVariants.{Number, Bad}
-use Rattle.numbers.specs.Number.{number_at, number_to, value_of, next_of}
+use Rattle.std.proofs.Common.{Ok, Err}
+use Rattle.numbers.specs.Number.{Parsed, number_at, number_to, value_of, next_of}
 use Rattle.numbers.proofs.Laws.{Goes, number_goes, number_to_goes}
 use Rattle.sheets.specs.Sheet.{stated_at, Meaning, after, once, copies, repeated, before, followed, repeat_at, entry_with, block_at, entry_at, places_of}
 use Rattle.sheets.specs.Sheet.Meaning.{Runs, Fault}
@@ -25,8 +24,8 @@ no_room r = absurd (false≢true r.whole)
 
 after_number : (s : List ℕ) (at : ℕ) (r : Parsed) (f : ℕ → ℕ → Meaning) (n : ℕ) → Goes s at r → Room (after r f) n
     → (after r f ≡ f (value_of r) (next_of r)) × (at < next_of r) × (next_of r ≤ length s)
-after_number s at (Number v x) f n g r = (refl, g.0, g.1)
-after_number s at (Bad p) f n g r = no_room r
+after_number s at (Ok x) f n g r = (refl, g.0, g.1)
+after_number s at (Err p) f n g r = no_room r
 
 -- ---- an entry, and the rest of its block
 
@@ -97,8 +96,8 @@ module _ (s : List ℕ) (at next tag d n : ℕ) (room : Room (entry_at s at next
   once_laid z x e = laid x (entry_once z ∙ rw (← e) refl)
     where
       laid : (x : Parsed) → entry_at s at next tag d ≡ once at x → (n < 4096) × (entry_at s at next tag d ≡ Runs (at ∷ []) (next_of x))
-      laid (Number v y) w = let r : Room (Runs (at ∷ []) y) n = rw w at room in (let f = r.few in omega arith, w)
-      laid (Bad p) w = let r : Room (Fault p) n = rw w at room in no_room r
+      laid (Ok y) w = let r : Room (Runs (at ∷ []) y.next) n = rw w at room in (let f = r.few in omega arith, w)
+      laid (Err p) w = let r : Room (Fault p) n = rw w at room in no_room r
 
 -- ---- a repeat
 

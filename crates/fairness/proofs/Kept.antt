@@ -63,7 +63,7 @@ refuses a b h = by_test (accepts a) (λ e. rw e h) (λ e. rw e e)
 
 -- ---- a word that moves is told
 
-movement_moves : (n k : ℕ) → moves (movement n k) ≡ true
+movement_moves : (n k : ℕ) → moves (Some (movement n k)) ≡ true
 movement_moves n k = by_test (eqb (k + 1) n) (λ e. rw e) (λ e. rw e)
 
 advance_moves : (c : Controller) (f : Flash) (w : Work) → moves (advance c f w).result.movement ≡ true

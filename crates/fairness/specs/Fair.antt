@@ -111,7 +111,7 @@ SameWord =
 abbrev pub StartsAtZero : Type 0
 StartsAtZero = (s : State) (d : ℕ) → pages_fit d ≡ true → (perform s (Reset d)).state.controller.physical ≡ reset_physical
 
--- None but reset and a round that asks the step changes a count.
+-- Nothing but reset and a round that asks the step changes a count.
 abbrev pub CountsStay : Type 0
 CountsStay =
     (s : State) (k : Call) → is_reset k ≡ false → asks_step k ≡ false → (perform s k).state.controller.physical ≡ s.controller.physical

@@ -1,4 +1,5 @@
 -- What a host read and a view tell, by what their checks answer. Assumes nothing.
+use Rattle.std.specs.Prelude.{Ok, Err}
 use Prim.Native.Nat.{ℕ, ◌+◌, ◌*◌, ◌≤◌, ◌<◌}
 use native.Mathlib.Omega.{arith}
 use mathlib.Core.Path.{◌≡◌, refl, ap, sym, ◌∙◌}
@@ -17,7 +18,8 @@ use Rattle.model.specs.Host.{read_answer, host_answer, host_read, view_answer, v
 use Rattle.model.specs.declared.Page.{Page}
 use Rattle.model.specs.declared.ByteAddress.{ByteAddress}
 use Rattle.model.specs.declared.Controller.{Controller}
-use Rattle.model.specs.Refusals.{Answer}
+use Rattle.model.specs.Refusals.{Answer, accepted}
+use Rattle.model.specs.declared.Refusal.{Refusal}
 use Rattle.model.specs.declared.Refusal.TheVariants.{Malformed, OutOfRange}
 use Rattle.registers.specs.Layout.{pages_at}
 use Rattle.registers.specs.Registers.{stands_for, decode}
@@ -25,7 +27,7 @@ use Rattle.calls.specs.Calls.{told_host_word, told_start, host_read_in, view_in}
 use Rattle.model.proofs.Bool.{by_test}
 use Rattle.model.proofs.Geometry.{data_inside, word_at_inside}
 use Rattle.model.proofs.Moving.{with_valid}
-use Rattle.model.proofs.Answers.{both_accept, check_passed}
+use Rattle.model.proofs.Answers.{accepted_is, both_accept, check_passed}
 use Rattle.model.proofs.Accepting.{ready_valid, lent_fits}
 use Rattle.validity.specs.Ready.{Ready}
 use Rattle.validity.proofs.Taken.{taken_stands}
@@ -99,9 +101,34 @@ module _ (s : List ℕ) (f : Flash) where
     unfolding host_answer
     early_same h = rw h
 
-    pub read_early : accepts (ready_answer (valid_with (decode s) f) (decode s).phase) ≡ false
-        → told_host_word (ready_answer (valid_with (decode s) f) (decode s).phase) 0 ≡ host_read_in s f a
-    read_early h = rw (early_same h) at (read_refused (ap accepts (early_same h) ∙ h))
+    pub read_early : {e : Refusal} → ready_answer (valid_with (decode s) f) (decode s).phase ≡ Err e → told_host_word (Err e) 0 ≡ host_read_in s f a
+    read_early w =
+        let h : host_answer (decode s) f a ≡ Err _ = early_same (rw w) ∙ w in
+        rw h at (read_refused (rw h))
+
+    -- In a state that passes them the later checks decide.
+    module _ (ready : Ready s f) where
+      abbrev late : Answer
+      late =
+          or_else (check (unaligned a) Malformed)
+          (or_else (check (past_data (get_or s pages_at 0) a) OutOfRange)
+          (read_answer (stands_for s).setup (page_of a)))
+
+      pub late_refused : {e : Refusal} → late ≡ Err e → told_host_word (Err e) 0 ≡ host_read_in s f a
+      late_refused w =
+          let h : host_answer (decode s) f a ≡ Err _ = sym (late_same ready) ∙ w in
+          rw h at (read_refused (rw h))
+
+      late_told : {done : Unit} → late ≡ Ok done → host_answer (decode s) f a ≡ accepted
+      late_told w = accepted_is _ (rw (sym (late_same ready) ∙ w))
+
+      pub late_inside : {done : Unit} → late ≡ Ok done
+          → (get_or s pages_at 0 ≤ 256) × ((word_at (get_or s pages_at 0) false 0 a).0 < length f.words)
+      late_inside w = read_inside (rw (late_told w))
+
+      pub late_accepted : {done : Unit} → late ≡ Ok done
+          → told_host_word accepted (delivered f (word_at (get_or s pages_at 0) false 0 a)) ≡ host_read_in s f a
+      late_accepted w = let h = late_told w in rw h at (read_accepted (rw h))
 
   -- ---- view
 
@@ -134,6 +161,16 @@ module _ (s : List ℕ) (f : Flash) where
       unfolding view_in view
       view_accepted = rw (h, view_pages)
 
-    pub view_refused : accepts (view_answer (decode s) f p) ≡ false → told_start (view_answer (decode s) f p) 0 ≡ view_in s f p
+    pub view_refused : {e : Refusal} → view_answer (decode s) f p ≡ Err e → told_start (Err e) 0 ≡ view_in s f p
     unfolding view_in view
     view_refused h = rw h
+
+    pub view_shown : {done : Unit} → view_answer (decode s) f p ≡ Ok done
+        → told_start accepted (first_word (image_page (get_or s pages_at 0) false 0 p)).0 ≡ view_in s f p
+    view_shown w =
+        let h : view_answer (decode s) f p ≡ accepted = accepted_is _ (rw w) in
+        rw h at (view_accepted (rw h))
+
+    pub view_fits : {done : Unit} → view_answer (decode s) f p ≡ Ok done
+        → (get_or s pages_at 0 ≤ 256) × (p.0 < 512) × ((first_word (image_page (get_or s pages_at 0) false 0 p)).0 + 256 ≤ length f.words)
+    view_fits w = view_inside (rw w)

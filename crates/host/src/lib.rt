@@ -9,11 +9,10 @@ ghost use Rattle.model.specs.Checks.{unaligned, past_data};
 ghost use Rattle.model.specs.Host.{read_answer, view_answer, view};
 ghost use Rattle.registers.specs.Layout.{pages_at};
 ghost use Rattle.registers.specs.Registers.{stands_for, decode};
-ghost use Rattle.calls.specs.Calls.{told_host_word, told_start, host_read_in, view_in};
+ghost use Rattle.calls.specs.Calls.{answer_of, or_zero, told_host_word, told_start, host_read_in, view_in};
 ghost use Rattle.validity.specs.Ready.{Ready};
 
-use calls::{ToldHostWord, ToldStart};
-use model::{Answer, ByteAddress, Page, WIDE_PAGE_WORDS};
+use model::{Answer, ByteAddress, Page, Refusal, WIDE_PAGE_WORDS};
 use registers::Registers;
 
 // Check 9: the read right (1) of a data page decides.
@@ -22,55 +21,38 @@ fn read_answer(s: &Registers, p: Page) -> Answer
 {
     let ruling = lookups::ruling_at(s, false, 0, p);
     let by = ruling.decider;
-    refusals::check(!rights::grants(ruling.rights, 1), Answer::Denied(by))
+    refusals::check(!rights::grants(ruling.rights, 1), Refusal::Denied(by))
 }
 
 // Checks 5, 7 and 9 of a host read, in this order.
 fn late_answer(s: &Registers, at: ByteAddress) -> Answer
-    ensures { result ≡ or_else (check (unaligned at) Answer.Malformed) (or_else (check (past_data (get_or s.now pages_at 0) at) Answer.OutOfRange) (read_answer (stands_for s.now).setup (page_of at))) }
+    ensures { result ≡ or_else (check (unaligned at) Refusal.Malformed) (or_else (check (past_data (get_or s.now pages_at 0) at) Refusal.OutOfRange) (read_answer (stands_for s.now).setup (page_of at))) }
 {
-    if checks::unaligned(at) {
-        return Answer::Malformed;
-    }
-    if checks::past_data(registers::pages(s), at) {
-        return Answer::OutOfRange;
-    }
+    refusals::check(checks::unaligned(at), Refusal::Malformed)?;
+    refusals::check(
+        checks::past_data(registers::pages(s), at),
+        Refusal::OutOfRange,
+    )?;
     read_answer(s, geometry::page_of(at))
 }
 
-// What a host read tells.
-pub fn told_word(answer: Answer, word: u32) -> ToldHostWord
-    ensures { result ≡ told_host_word answer word }
-{
-    let told = calls::told(answer);
-    ToldHostWord {
-        answer: told.answer,
-        decider: told.decider,
-        word,
-    }
-}
-
 // A host read of a state that has passed checks 1 to 3.
-pub fn ready_read(s: &Registers, image: &[u32], at: ByteAddress) -> ToldHostWord
+#[tactic(auto, using(crate::proofs::Hosted::late_refused))]
+pub fn ready_read(s: &Registers, image: &[u32], at: ByteAddress) -> Result<u32, Refusal>
     requires { Ready s.now (flash image.now) }
-    ensures { result ≡ host_read_in s.now (flash image.now) at }
+    ensures { told_host_word (answer_of result) (or_zero result) ≡ host_read_in s.now (flash image.now) at }
 {
-    let answer = late_answer(s, at);
-    if !refusals::accepts(answer) {
-        return told_word(answer, 0);
-    }
+    late_answer(s, at)?;
     let place = geometry::word_at(registers::pages(s), false, 0, at);
-    told_word(answer, words::delivered(image, place))
+    Ok(words::delivered(image, place))
 }
 
 // The true word at an address of the data pages.
-pub fn host_read(s: &Registers, image: &[u32], at: ByteAddress) -> ToldHostWord
-    ensures { result ≡ host_read_in s.now (flash image.now) at }
+#[tactic(auto, using(crate::proofs::Hosted::read_early))]
+pub fn host_read(s: &Registers, image: &[u32], at: ByteAddress) -> Result<u32, Refusal>
+    ensures { told_host_word (answer_of result) (or_zero result) ≡ host_read_in s.now (flash image.now) at }
 {
-    let ready = validity::ready_with(s, image);
-    if !refusals::accepts(ready) {
-        return told_word(ready, 0);
-    }
+    validity::ready_with(s, image)?;
     ready_read(s, image, at)
 }
 
@@ -80,7 +62,7 @@ fn view_answer(s: &Registers, image: &[u32], p: Page) -> Answer
 {
     let ready = validity::ready_with(s, image);
     let past = 2 * (registers::pages(s) as usize) <= p.0 as usize;
-    let range = refusals::check(past, Answer::OutOfRange);
+    let range = refusals::check(past, Refusal::OutOfRange);
     let right = read_answer(s, p);
     refusals::or_else(ready, refusals::or_else(range, right))
 }
@@ -95,26 +77,13 @@ fn page_start(s: &Registers, p: Page) -> u32
     first.0
 }
 
-fn told_start(answer: Answer, start: u32) -> ToldStart
-    ensures { result ≡ told_start answer start }
+// The word of the image at which a view starts.
+#[tactic(auto, using(crate::proofs::Hosted::view_refused, crate::proofs::Hosted::view_shown, crate::proofs::Hosted::view_fits))]
+pub fn view_start(s: &Registers, image: &[u32], p: Page) -> Result<u32, Refusal>
+    ensures { told_start (answer_of result) (or_zero result) ≡ view_in s.now (flash image.now) p }
 {
-    let told = calls::told(answer);
-    ToldStart {
-        answer: told.answer,
-        decider: told.decider,
-        start,
-    }
-}
-
-// Where a view starts: 0 where it is refused.
-pub fn view_start(s: &Registers, image: &[u32], p: Page) -> ToldStart
-    ensures { result ≡ view_in s.now (flash image.now) p }
-{
-    let answer = view_answer(s, image, p);
-    if !refusals::accepts(answer) {
-        return told_start(answer, 0);
-    }
-    told_start(answer, page_start(s, p))
+    view_answer(s, image, p)?;
+    Ok(page_start(s, p))
 }
 
 // A data page's own words inside the lent image, or no words. `refusal` is set to the answer's number, and `decider` to what it

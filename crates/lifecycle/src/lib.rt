@@ -52,9 +52,7 @@ fn seed(image: &[u32], at: BusWord) -> [u32; 8]
 {
     let start = at.0 as usize;
     let mut words = [0u32; 8];
-    for i in 0..8usize {
-        words[i] = image[start + i];
-    }
+    words.copy_from_slice(&image[start..start + 8]);
     words
 }
 

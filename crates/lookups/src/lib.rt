@@ -14,25 +14,18 @@ use registers::Registers;
 fn data_ruling(s: &Registers, p: Page) -> Ruling
     ensures { result ≡ data_ruling 0 (regions_of s.now) (get_or s.now default_at 0 % 256) p }
 {
-    let other = registers::default_rights(s);
-    let mut i: usize = 0;
-    loop {
-        if i == 8 {
-            let by_default = Ruling {
-                rights: other,
-                decider: Decider::Default,
-            };
-            break by_default;
-        }
-        let g = registers::region(s, i);
+    for i in 0..8u8 {
+        let g = registers::region(s, i as usize);
         if rights::decides(p, g) {
-            let by_region = Ruling {
+            return Ruling {
                 rights: g.rights,
-                decider: Decider::Region(i as u8),
+                decider: Decider::Region(i),
             };
-            break by_region;
         }
-        i += 1;
+    }
+    Ruling {
+        rights: registers::default_rights(s),
+        decider: Decider::Default,
     }
 }
 
@@ -49,6 +42,7 @@ fn page_setting(s: &Registers, page: usize) -> PageSetting
 }
 
 // A closed seed page is denied by the seed lock, whatever its setting says.
+#[tactic(auto, unfolding(model::specs::Rights::info_ruling))]
 fn info_ruling(s: &Registers, page: usize) -> Ruling
     ensures { result ≡ info_ruling (inputs_at s.now) (settings_of s.now) page }
 {
@@ -67,6 +61,7 @@ fn info_ruling(s: &Registers, page: usize) -> Ruling
 }
 
 // The rights of a page of either partition, and who decided.
+#[tactic(auto, unfolding(model::specs::Rights::ruling_at, registers::specs::Registers::stands_for))]
 pub fn ruling_at(s: &Registers, information: bool, t: u8, p: Page) -> Ruling
     ensures { result ≡ ruling_at (stands_for s.now).setup information t p }
 {

@@ -24,3 +24,4 @@ pub mod Accepting
 pub mod Free
 pub mod Rounds
 pub mod Bench
+pub mod Parts

@@ -1,8 +1,13 @@
 -- Numbers, worked out. Assumes nothing.
 use mathlib.Core.Path.{◌≡◌, refl}
 use mathlib.Core.List.{[], ◌∷◌, map}
-use Rattle.numbers.specs.declared.Parsed.TheVariants.{Number, Bad}
-use Rattle.numbers.specs.Number.{continued, last_group, groups_value, shortest, number_between, number_at, limited, number_to, then_number, then_numbers}
+use Prim.Native.Nat.{ℕ}
+use Rattle.std.proofs.Common.{Ok, Err}
+use Rattle.numbers.specs.Number.{Parsed, continued, last_group, groups_value, shortest, number_between, number_at, limited, number_to, then_number, then_numbers}
+
+-- What is read where a number stands.
+abbrev numeral : ℕ → ℕ → Parsed
+numeral v n = Ok (record { value = v; next = n })
 
 -- None; one, two and five groups, the largest among them; 2^32; six groups; 0 and 5 in two groups; two that do not end.
 pub cases : map (λ s. number_at s 0) (
@@ -19,13 +24,13 @@ pub cases : map (λ s. number_at s 0) (
     ∷ (128 ∷ [])
     ∷ (255 ∷ 255 ∷ 255 ∷ 255 ∷ 255 ∷ 255 ∷ 255 ∷ [])
     ∷ [])
-    ≡ Bad 0 ∷ Number 0 1 ∷ Number 127 1 ∷ Number 128 2 ∷ Number 16383 2 ∷ Number 4294967295 5 ∷ Bad 0 ∷ Bad 0 ∷ Bad 0 ∷ Bad 0 ∷ Bad 1 ∷ Bad 7 ∷ []
+    ≡ Err 0 ∷ numeral 0 1 ∷ numeral 127 1 ∷ numeral 128 2 ∷ numeral 16383 2 ∷ numeral 4294967295 5 ∷ Err 0 ∷ Err 0 ∷ Err 0 ∷ Err 0 ∷ Err 1 ∷ Err 7 ∷ []
 unfolding continued last_group groups_value shortest number_between number_at
 cases = refl
 
 -- At another place; up to its limit and past it; after a number; after a fault; three more, and three of which the second is bad.
-pub further : number_at (0 ∷ 128 ∷ []) 1 ∷ number_to (7 ∷ []) 7 0 ∷ number_to (8 ∷ []) 7 0 ∷ then_number (1 ∷ 5 ∷ []) 255 (Number 1 1)
-    ∷ then_number (1 ∷ 5 ∷ []) 255 (Bad 0) ∷ then_numbers (1 ∷ 2 ∷ 3 ∷ 4 ∷ []) 3 (Number 0 1) ∷ then_numbers (1 ∷ 2 ∷ 128 ∷ 0 ∷ 4 ∷ []) 3 (Number 0 1) ∷ []
-    ≡ Bad 2 ∷ Number 7 1 ∷ Bad 0 ∷ Number 5 2 ∷ Bad 0 ∷ Number 4 4 ∷ Bad 2 ∷ []
+pub further : number_at (0 ∷ 128 ∷ []) 1 ∷ number_to (7 ∷ []) 7 0 ∷ number_to (8 ∷ []) 7 0 ∷ then_number (1 ∷ 5 ∷ []) 255 (numeral 1 1)
+    ∷ then_number (1 ∷ 5 ∷ []) 255 (Err 0) ∷ then_numbers (1 ∷ 2 ∷ 3 ∷ 4 ∷ []) 3 (numeral 0 1) ∷ then_numbers (1 ∷ 2 ∷ 128 ∷ 0 ∷ 4 ∷ []) 3 (numeral 0 1) ∷ []
+    ≡ Err 2 ∷ numeral 7 1 ∷ Err 0 ∷ numeral 5 2 ∷ Err 0 ∷ numeral 4 4 ∷ Err 2 ∷ []
 unfolding continued last_group groups_value shortest number_between number_at limited number_to then_number then_numbers
 further = refl

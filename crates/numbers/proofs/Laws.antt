@@ -1,20 +1,21 @@
 -- Laws of numbers in bytes: each way in which one ends, how a value is made up, and that reading goes forward. Assumes nothing.
 use mathlib.Core.Path.{◌≡◌, refl, sym}
 use mathlib.Core.Logic.{⊎_elim}
-use mathlib.Core.Bool.{true, cond, ◌&&◌, ◌||◌}
+use mathlib.Core.Bool.{Bool, true, false, cond, ◌&&◌, ◌||◌}
 use mathlib.Core.List.{List, [], ◌∷◌}
-use Prim.Native.Nat.{ℕ, zero, suc, ◌+◌, ◌*◌, ◌-◌, ◌%◌, ◌^◌, ◌≤◌, ◌<◌}
+use Prim.Native.Nat.{ℕ, zero, suc, ◌+◌, ◌*◌, ◌-◌, ◌%◌, ◌^◌, ◌≤◌, ◌<◌, max}
 use native.Mathlib.Nat.{mod-lt, mod-eq_of_lt, pow-le-pow_right, pow-succ'}
 use native.Mathlib.Numerals.{add-one}
 use native.Mathlib.Omega.{arith}
 use lib.ListN.{length, get_or, drop, length-drop, drop_of_length-le}
 use lib.Seq.{drop-cons, get_or-drop}
 use lib.Dec.{leb, ltb}
-use borrow.Author.Tests.{le-leb, lt-leb, le-ltb, lt-ltb, ltb-true, leb-true, leb-false}
-use Rattle.model.proofs.Bool.{and_right, which}
-use Rattle.numbers.specs.declared.Parsed.{Parsed}
-use Rattle.numbers.specs.declared.Parsed.TheVariants.{Number, Bad}
-use Rattle.numbers.specs.Number.{largest, continued, last_group, groups_value, shortest, number_between, number_at, limited, number_to, then_number, then_numbers, value_of}
+use borrow.Author.Tests.{le-leb, lt-leb, le-ltb, lt-ltb, ltb-true, ltb-false, leb-true, leb-false}
+use Rattle.model.proofs.Bool.{which}
+use Rattle.std.proofs.Common.{Option, Some, None, Ok, Err, position, ap}
+use Rattle.std.specs.List.{position_or_len}
+use Rattle.std.proofs.lemmas.List.Recursion.{is_position_or_len}
+use Rattle.numbers.specs.Number.{Parsed, largest, continued, last_group, groups_value, shortest, number_between, number_at, limited, number_to, then_number, then_numbers, value_of}
 
 -- ---- the last group
 
@@ -48,6 +49,36 @@ unfolding last_group
 last_small s at h =
     let g : continued (drop at s) < length (drop at s) = simp length-drop (omega arith) in
     rw get_or-drop at (continued_small (drop at s) g)
+
+-- How many bytes have it is the place of the first that hasn't.
+continued_is : (l : List ℕ) → continued l ≡ position_or_len (λ b. ltb b 128) l
+unfolding continued
+continued_is = is_position_or_len continued (λ b. ltb b 128) refl (λ b t. let e : 1 + continued t ≡ suc (continued t) = omega arith in rw e refl)
+
+continued_most : (l : List ℕ) → continued l ≤ length l
+unfolding continued
+continued_most [] = omega arith
+continued_most (b ∷ t) = ⊎_elim (λ e. rw e (omega arith)) (λ e. rw e (omega (arith, continued_most t))) (which (ltb b 128))
+
+-- The search for that place, from `at` on.
+abbrev pub ends_in : List ℕ → ℕ → Option ℕ
+ends_in s at = position (λ b. ltb b 128) (drop at s)
+
+found : (n m g : ℕ) → cond (ltb n m) (Some n) None ≡ Some g → n ≡ g
+found n m g e = ⊎_elim (λ h. let i : Some n ≡ Some g = rw h at e in cc) (λ h. let i : None ≡ Some g = rw h at e in cc) (which (ltb n m))
+
+missed : (n m : ℕ) → cond (ltb n m) (Some n) None ≡ None → m ≤ n
+missed n m e = ⊎_elim (λ h. let i : Some n ≡ None = rw h at e in cc) (λ h. ltb-false n m h) (which (ltb n m))
+
+pub last_found : (s : List ℕ) (at groups : ℕ) → ends_in s at ≡ Some groups → at + groups ≡ last_group s at
+unfolding last_group
+last_found s at groups e = rw continued_is (ap (λ (n : ℕ). at + n) (sym (found _ _ _ e)))
+
+pub last_missed : (s : List ℕ) (at : ℕ) → ends_in s at ≡ None → max at (length s) ≡ last_group s at
+unfolding last_group
+last_missed s at e =
+    let h : length (drop at s) ≤ continued (drop at s) = rw continued_is (missed _ _ e) in
+    omega (arith, continued_most (drop at s), length-drop at s)
 
 -- ---- the value
 
@@ -99,7 +130,7 @@ six_groups s at end l small z =
     = value_some s (at + 1 + 1 + 1 + 1 + 1) (end - (at + 5)) (rw f p) (rw f small) in
     rw e (omega arith)
 
-too_long : (s : List ℕ) (at end : ℕ) → end ≡ last_group s at → end < length s → at + 4 < end → number_between s at end ≡ Bad at
+too_long : (s : List ℕ) (at end : ℕ) → end ≡ last_group s at → end < length s → at + 4 < end → number_between s at end ≡ Err at
 unfolding number_between
 too_long s at end e h l =
     rw (lt-leb (length s) end h)
@@ -110,24 +141,30 @@ too_long s at end e h l =
 
 -- ---- what the number at a place is, by where its last group stands
 
-pub ends_short : (s : List ℕ) (at end : ℕ) → end ≡ last_group s at → length s ≤ end → Bad (length s) ≡ number_at s at
+pub ends_short : (s : List ℕ) (at end : ℕ) → end ≡ last_group s at → length s ≤ end → Err (length s) ≡ number_at s at
 unfolding number_at number_between
 ends_short s at end e h = rw (← e, le-leb _ _ h) refl
 
-pub ends_long : (s : List ℕ) (at end : ℕ) → end ≡ last_group s at → end < length s → at + 4 < end → Bad at ≡ number_at s at
+pub ends_long : (s : List ℕ) (at end : ℕ) → end ≡ last_group s at → end < length s → at + 4 < end → Err at ≡ number_at s at
 unfolding number_at
 ends_long s at end e h l = rw (← e) (sym (too_long s at end e h l))
 
-pub ends_well : (s : List ℕ) (at end v : ℕ) → end ≡ last_group s at → end < length s → v ≡ groups_value s at (end - at + 1)
-    → cond ((leb end at || ltb 0 (get_or s end 0)) && leb v largest) (Number v (end + 1)) (Bad at) ≡ number_at s at
-unfolding number_at number_between shortest
-ends_well s at end v e h w = rw (← e, lt-leb _ _ h, ← w) refl
+-- The last group stands, among five at most: whether the number is good is its form and its size.
+abbrev pub good : List ℕ → ℕ → ℕ → ℕ → Bool
+good s at end v = (leb end at || ltb 0 (get_or s end 0)) && leb v largest
 
-pub is_below : (s : List ℕ) (at end v : ℕ) → (leb end at || ltb 0 (get_or s end 0)) && leb v largest ≡ true → v < 4294967296
-is_below s at end v e = let h : v ≤ largest = leb-true _ _ (and_right (leb end at || ltb 0 (get_or s end 0)) _ e) in omega arith
+pub ends_well : (s : List ℕ) (at end v : ℕ) → end ≡ last_group s at → end < length s → v ≡ groups_value s at (end - at + 1)
+    → good s at end v ≡ true → Ok (record { value = v; next = end + 1 }) ≡ number_at s at
+unfolding number_at number_between shortest
+ends_well s at end v e h w t = rw (← e, lt-leb _ _ h, ← w, t) refl
+
+pub ends_badly : (s : List ℕ) (at end v : ℕ) → end ≡ last_group s at → end < length s → v ≡ groups_value s at (end - at + 1)
+    → good s at end v ≡ false → Err at ≡ number_at s at
+unfolding number_at number_between shortest
+ends_badly s at end v e h w t = rw (← e, lt-leb _ _ h, ← w, t) refl
 
 -- Past the end there is none.
-pub number_none : (s : List ℕ) (at : ℕ) → length s ≤ at → number_at s at ≡ Bad (length s)
+pub number_none : (s : List ℕ) (at : ℕ) → length s ≤ at → number_at s at ≡ Err (length s)
 number_none s at h = sym (ends_short s at at (sym (last_none s at h)) h)
 
 -- ---- one number more, at the front and at the end
@@ -151,8 +188,8 @@ numbers_more s (suc k) r = rw (add-one (suc k)) (rw add-one at (numbers_more s k
 -- ---- reading goes forward: a number ends after the place where it begins, and inside the bytes
 
 abbrev pub Goes : List ℕ → ℕ → Parsed → Type 0
-Goes s at (Number v n) = (at < n) × (n ≤ length s)
-Goes s at (Bad p) = Unit
+Goes s at (Ok n) = (at < n.next) × (n.next ≤ length s)
+Goes s at (Err p) = Unit
 
 pub number_goes : (s : List ℕ) (at : ℕ) → Goes s at (number_at s at)
 unfolding number_at number_between
@@ -168,8 +205,8 @@ number_goes s at =
 
 limited_goes : (s : List ℕ) (at max : ℕ) (r : Parsed) → Goes s at r → Goes s at (limited max at r)
 unfolding limited
-limited_goes s at max (Number v n) g = ⊎_elim (λ e. rw e g) (λ e. rw e tt) (which (leb v max))
-limited_goes s at max (Bad p) g = tt
+limited_goes s at max (Ok n) g = ⊎_elim (λ e. rw e g) (λ e. rw e tt) (which (leb n.value max))
+limited_goes s at max (Err p) g = tt
 
 pub number_to_goes : (s : List ℕ) (max at : ℕ) → Goes s at (number_to s max at)
 unfolding number_to
@@ -177,12 +214,12 @@ number_to_goes s max at = limited_goes s at max (number_at s at) (number_goes s 
 
 pub then_goes : (s : List ℕ) (at max : ℕ) (r : Parsed) → Goes s at r → Goes s at (then_number s max r)
 unfolding then_number
-then_goes s at max (Number v n) g = farther (number_to s max n) (number_to_goes s max n)
+then_goes s at max (Ok n) g = farther (number_to s max n.next) (number_to_goes s max n.next)
   where
-    farther : (r : Parsed) → Goes s n r → Goes s at r
-    farther (Number w m) h = (omega arith, h.1)
-    farther (Bad p) h = tt
-then_goes s at max (Bad p) g = tt
+    farther : (r : Parsed) → Goes s n.next r → Goes s at r
+    farther (Ok m) h = (omega arith, h.1)
+    farther (Err p) h = tt
+then_goes s at max (Err p) g = tt
 
 pub numbers_go : (s : List ℕ) (at k : ℕ) (r : Parsed) → Goes s at r → Goes s at (then_numbers s k r)
 unfolding then_numbers
@@ -193,8 +230,8 @@ numbers_go s at (suc k) r g = numbers_go s at k (then_number s largest r) (then_
 
 limited_small : (max at : ℕ) (r : Parsed) → value_of (limited max at r) ≤ max
 unfolding limited
-limited_small max at (Number v n) = ⊎_elim (λ e. rw e (leb-true _ _ e)) (λ e. rw e (omega arith)) (which (leb v max))
-limited_small max at (Bad p) = omega arith
+limited_small max at (Ok n) = ⊎_elim (λ e. rw e (leb-true _ _ e)) (λ e. rw e (omega arith)) (which (leb n.value max))
+limited_small max at (Err p) = omega arith
 
 pub number_to_small : (s : List ℕ) (max at : ℕ) → value_of (number_to s max at) ≤ max
 unfolding number_to
@@ -202,5 +239,5 @@ number_to_small s max at = limited_small max at (number_at s at)
 
 pub then_small : (s : List ℕ) (max : ℕ) (r : Parsed) → value_of (then_number s max r) ≤ max
 unfolding then_number
-then_small s max (Number v n) = number_to_small s max n
-then_small s max (Bad p) = omega arith
+then_small s max (Ok n) = number_to_small s max n.next
+then_small s max (Err p) = omega arith

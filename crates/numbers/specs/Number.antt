@@ -1,8 +1,11 @@
 -- Numbers in bytes: groups of seven bits, low group first, top bit set on all but the last, shortest form only, below 2^32.
 -- (02, L4)
-use Rattle.std.specs.Prelude.{ℕ, zero, suc, ◌+◌, ◌*◌, ◌-◌, ◌%◌, List, [], ◌∷◌, Bool, cond, ◌&&◌, ◌||◌, length, get_or, drop, leb, ltb}
-use Rattle.numbers.specs.declared.Parsed.{Parsed}
-use Rattle.numbers.specs.declared.Parsed.TheVariants.{Number, Bad}
+use Rattle.std.specs.Prelude.{ℕ, zero, suc, ◌+◌, ◌*◌, ◌-◌, ◌%◌, List, [], ◌∷◌, Bool, cond, ◌&&◌, ◌||◌, length, get_or, drop, leb, ltb, Result, Ok, Err}
+use Rattle.numbers.specs.declared.Numeral.{Numeral}
+
+-- What stands at a place: a number, or the place that is bad.
+abbrev pub Parsed : Type 0
+Parsed = Result Numeral ℕ
 
 -- 2^32 - 1.
 abbrev pub largest : ℕ
@@ -30,26 +33,26 @@ shortest s at end = leb end at || ltb 0 (get_or s end 0)
 -- many it has, it is bad at the length; if it is not the shortest form or too large, where it begins.
 unfoldable pub number_between : List ℕ → ℕ → ℕ → Parsed
 number_between s at end =
-    cond (leb (length s) end) (Bad (length s))
+    cond (leb (length s) end) (Err (length s))
     (cond (shortest s at end && leb (groups_value s at (end - at + 1)) largest)
-    (Number (groups_value s at (end - at + 1)) (end + 1))
-    (Bad at))
+    (Ok (record { value = groups_value s at (end - at + 1); next = end + 1 }))
+    (Err at))
 
 unfoldable pub number_at : List ℕ → ℕ → Parsed
 number_at s at = number_between s at (last_group s at)
 
 -- A number that may be `max` at most: a larger one can't stand there, so that it is bad where it begins.
 unfoldable pub limited : ℕ → ℕ → Parsed → Parsed
-limited max at (Number v n) = cond (leb v max) (Number v n) (Bad at)
-limited max at (Bad p) = Bad p
+limited max at (Ok n) = cond (leb n.value max) (Ok n) (Err at)
+limited max at (Err p) = Err p
 
 unfoldable pub number_to : List ℕ → ℕ → ℕ → Parsed
 number_to s max at = limited max at (number_at s at)
 
 -- One number more, after what stood before: the first fault decides.
 unfoldable pub then_number : List ℕ → ℕ → Parsed → Parsed
-then_number s max (Number v n) = number_to s max n
-then_number s max (Bad p) = Bad p
+then_number s max (Ok n) = number_to s max n.next
+then_number s max (Err p) = Err p
 
 -- k numbers more, of any value: the last of them, or what stood before if k is 0.
 unfoldable pub then_numbers : List ℕ → ℕ → Parsed → Parsed
@@ -58,9 +61,9 @@ then_numbers s (suc k) r = then_numbers s k (then_number s largest r)
 
 -- The value, 0 where there is none; the place after it, or the fault's.
 abbrev pub value_of : Parsed → ℕ
-value_of (Number v n) = v
-value_of (Bad p) = 0
+value_of (Ok n) = n.value
+value_of (Err p) = 0
 
 abbrev pub next_of : Parsed → ℕ
-next_of (Number v n) = n
-next_of (Bad p) = p
+next_of (Ok n) = n.next
+next_of (Err p) = p

@@ -1,99 +1,86 @@
--- Laws of a payload's bytes, one by one. Assumes nothing.
-use mathlib.Core.Path.{◌≡◌, refl, sym, ◌∙◌}
+-- Laws of a payload's groups, bytes and words. Assumes nothing.
+use mathlib.Core.Path.{◌≡◌, refl, sym, ap, ◌∙◌}
+use mathlib.Core.Bool.{true, false}
+use mathlib.Core.Logic.{⊎_elim}
 use mathlib.Core.List.{List, [], ◌∷◌, ◌++◌, append_assoc}
 use Prim.Native.Nat.{ℕ, zero, suc, ◌+◌, ◌*◌, ◌-◌, ◌/◌, ◌%◌, ◌<◌, ◌≤◌}
 use native.Mathlib.Omega.{arith}
-use lib.ListN.{length, get_or, take, replicate, get_or-replicate, get_or-append, length-append, length-take, length-replicate}
-use lib.Seq.{get_or-append-add, get_or-take, length-take-le, take-suc-set, take-suc, take_all}
+use lib.ListN.{length, get_or, set, take, drop, replicate, length-append}
+use lib.ListN.{length-replicate}
+use lib.Seq.{take-suc-set, take-suc, take_all}
 use native.Mathlib.Numerals.{add-one}
-use lib.ListN.{set}
 use Rattle.scan_queue.proofs.Encoding.{words_length}
-use borrow.Author.Tests.{lt-ltb, le-ltb}
+use borrow.Rule.Slice.PartMut.{put_mid}
+use Rattle.std.proofs.lemmas.List.{drop-replicate, set_at, take_at, drop_at}
+use lib.Dec.{ltb}
+use borrow.Author.Tests.{lt-ltb, le-ltb, ltb-false}
+use Rattle.model.proofs.Bool.{which}
 use Rattle.scan_queue.specs.Payload.{groups, words_of, filled, written}
-use Rattle.payloads.specs.declared.Groups.{Groups}
-use Rattle.payloads.specs.Fill.{GroupsOf, laid}
 
--- ---- the groups of a number, by how many there are
+-- ---- the groups of a number
 
-module _ (v : ℕ) where
-  pub one_group : v < 128 → GroupsOf v (record { count = 1; bytes = v ∷ 0 ∷ 0 ∷ 0 ∷ [] })
-  unfolding groups
-  one_group h = record { are = rw (lt-ltb v 128 h) refl; some = omega arith; most = omega arith }
+one_more : (k w : ℕ) → (128 ≤ w → groups k (w / 128) ≡ groups (suc k) (w / 128)) → groups (suc k) w ≡ groups (suc (suc k)) w
+unfolding groups
+one_more k w more =
+    ⊎_elim (λ (e : ltb w 128 ≡ true). rw e refl) (λ (e : ltb w 128 ≡ false). rw e (ap (λ l. (w % 128 + 128) ∷ l) (more (ltb-false w 128 e)))) (which (ltb w 128))
 
-  module _ (a : 128 ≤ v) where
-    pub two_groups : v / 128 < 128 → GroupsOf v (record { count = 2; bytes = (v % 128 + 128) ∷ v / 128 ∷ 0 ∷ 0 ∷ [] })
-    unfolding groups
-    two_groups h = record { are = rw (le-ltb v 128 a, lt-ltb (v / 128) 128 h) refl; some = omega arith; most = omega arith }
+enough : (w : ℕ) → w < 2097152 → groups 3 w ≡ groups 4 w
+enough w h = one_more 2 w (λ _. one_more 1 (w / 128) (λ _. one_more 0 (w / 128 / 128) (λ c. absurd (omega arith))))
 
-    module _ (b : 128 ≤ v / 128) where
-      pub three_groups : v / 128 / 128 < 128
-          → GroupsOf v (record { count = 3; bytes = (v % 128 + 128) ∷ (v / 128 % 128 + 128) ∷ v / 128 / 128 ∷ 0 ∷ [] })
-      unfolding groups
-      three_groups h = record {
-        are = rw (le-ltb v 128 a, le-ltb (v / 128) 128 b, lt-ltb (v / 128 / 128) 128 h) refl;
-        some = omega arith;
-        most = omega arith;
-      }
+last_group : (v : ℕ) → v < 128 → groups 4 v ≡ v ∷ []
+unfolding groups
+last_group v h = rw (lt-ltb v 128 h) refl
 
-      pub four_groups : 128 ≤ v / 128 / 128 → v < 268435456
-          → GroupsOf v (record { count = 4; bytes = (v % 128 + 128) ∷ (v / 128 % 128 + 128) ∷ (v / 128 / 128 % 128 + 128) ∷ v / 128 / 128 / 128 ∷ [] })
-      unfolding groups
-      four_groups h g =
-          let d : v / 128 / 128 / 128 < 128 = omega arith in
-          record {
-            are = rw (le-ltb v 128 a, le-ltb (v / 128) 128 b, le-ltb (v / 128 / 128) 128 h, lt-ltb (v / 128 / 128 / 128) 128 d) refl;
-            some = omega arith;
-            most = omega arith;
-          }
+first_group : (v : ℕ) → 128 ≤ v → v < 268435456 → groups 4 v ≡ (v % 128 + 128) ∷ groups 4 (v / 128)
+unfolding groups
+first_group v a h = rw (le-ltb v 128 a) (ap (λ l. (v % 128 + 128) ∷ l) (enough (v / 128) (omega arith)))
 
--- ---- a byte of the 56
+some_group : (v : ℕ) → 1 ≤ length (groups 4 v)
+unfolding groups
+some_group v = ⊎_elim (λ (e : ltb v 128 ≡ true). rw e (omega arith)) (λ (e : ltb v 128 ≡ false). rw e (omega arith)) (which (ltb v 128))
 
-module _ (gs bytes : List ℕ) where
-  rest : List ℕ
-  rest = replicate (56 - length (gs ++ (length bytes ∷ []) ++ bytes)) 255
+pub few_groups : (k v : ℕ) → length (groups k v) ≤ k
+unfolding groups
+few_groups zero v = omega arith
+few_groups (suc k) v =
+    ⊎_elim (λ (e : ltb v 128 ≡ true). rw e (omega arith)) (λ (e : ltb v 128 ≡ false). rw e (omega (arith, few_groups k (v / 128)))) (which (ltb v 128))
 
-  lay_is : filled (gs ++ (length bytes ∷ []) ++ bytes) ≡ gs ++ (length bytes ∷ (bytes ++ rest))
-  unfolding rest
-  lay_is = append_assoc (gs ++ (length bytes ∷ [])) bytes (replicate (56 - length (gs ++ (length bytes ∷ []) ++ bytes)) 255) ∙ append_assoc gs (length bytes ∷ []) (bytes ++ rest)
+-- Those laid so far, and those of what is left.
+module _ (l : List ℕ) (v r : ℕ) (same : l ++ groups 4 r ≡ groups 4 v) where
+  pub group_room : length l < 4
+  group_room = omega (arith, simp length-append at (ap length same), some_group r, few_groups 4 v)
 
-  pub in_groups : (j : ℕ) → j < length gs → get_or (filled (gs ++ (length bytes ∷ []) ++ bytes)) j 0 ≡ get_or gs j 0
-  in_groups j h = rw lay_is (get_or-append gs (length bytes ∷ (bytes ++ rest)) 0 j h)
+  pub group_laid : 128 ≤ r → r < 268435456 → (l ++ ((r % 128 + 128) ∷ [])) ++ groups 4 (r / 128) ≡ groups 4 v
+  group_laid a h = append_assoc l ((r % 128 + 128) ∷ []) (groups 4 (r / 128)) ∙ (rw (first_group r a h) at same)
 
-  past : (j k : ℕ) → j ≡ length gs + k → get_or (filled (gs ++ (length bytes ∷ []) ++ bytes)) j 0 ≡ get_or (length bytes ∷ (bytes ++ rest)) k 0
-  past j k e = rw (lay_is, e) (get_or-append-add gs (length bytes ∷ (bytes ++ rest)) k 0)
+  pub groups_laid : r < 128 → l ++ (r ∷ []) ≡ groups 4 v
+  groups_laid h = rw (last_group r h) at same
 
-  pub is_length : (j : ℕ) → j ≡ length gs → get_or (filled (gs ++ (length bytes ∷ []) ++ bytes)) j 0 ≡ length bytes
-  is_length j e = past j 0 (omega arith)
+-- ---- the 56 bytes: groups, length and bytes, copied over ones
 
-  pub in_bytes : (j i : ℕ) → j ≡ length gs + suc i → i < length bytes → get_or (filled (gs ++ (length bytes ∷ []) ++ bytes)) j 0 ≡ get_or bytes i 0
-  in_bytes j i e h = past j (suc i) e ∙ get_or-append bytes rest 0 i h
+copied : (gs bytes : List ℕ) → length gs ≤ 4 → length bytes ≤ 48
+    → put_mid (length gs + 1) (length gs + 1 + length bytes - (length gs + 1)) (set (gs ++ drop (length gs) (replicate 56 255)) (length gs) (length bytes)) bytes
+    ≡ filled (gs ++ (length bytes ∷ []) ++ bytes)
+copied gs bytes h k =
+    let n : ℕ = length gs in
+    let l : ℕ = length bytes in
+    let ones : List ℕ = replicate (55 - n) 255 in
+    let head : List ℕ = gs ++ (l ∷ []) in
+    let long : length head ≡ n + 1 = length-append gs (l ∷ []) in
+    let all : length (head ++ bytes) ≡ n + 1 + l = length-append head bytes ∙ omega (arith, long) in
+    let more : 56 - n ≡ suc (55 - n) = omega arith in
+    let left : 55 - n - l ≡ 56 - length (head ++ bytes) = omega (arith, all) in
+    let count : n + 1 + l - (n + 1) ≡ l = omega arith in
+    let over : set (gs ++ drop n (replicate 56 255)) n l ≡ head ++ ones
+    = rw (drop-replicate {X = ℕ} n 56 255, more) (set_at gs 255 ones l n refl ∙ sym (append_assoc gs (l ∷ []) ones)) in
+    rw (over, take_at head ones (n + 1) long, drop_at head ones (n + 1) long, count, drop-replicate {X = ℕ} l (55 - n) 255, left)
+    (sym (append_assoc head bytes (replicate (56 - length (head ++ bytes)) 255)))
 
-  pub in_rest : (j i : ℕ) → j ≡ length gs + suc (length bytes + i) → j < 56 → get_or (filled (gs ++ (length bytes ∷ []) ++ bytes)) j 0 ≡ 255
-  unfolding rest
-  in_rest j i e h =
-      let n : length (gs ++ (length bytes ∷ []) ++ bytes) ≡ length gs + 1 + length bytes = simp length-append in
-      past j (suc (length bytes + i)) e ∙ get_or-append-add bytes rest i 0
-      ∙ get_or-replicate (56 - length (gs ++ (length bytes ∷ []) ++ bytes)) i 255 0 (omega arith)
-
--- ---- the same, for the groups as the code has them
-
-module _ (g : Groups) (bytes : List ℕ) (four : length g.bytes ≡ 4) (most : g.count ≤ 4) (j : ℕ) where
-  n_groups : length (take g.count g.bytes) ≡ g.count
-  n_groups = length-take-le g.count g.bytes (omega arith)
-
-  pub laid_group : j < g.count → get_or g.bytes j 0 ≡ get_or (laid g bytes) j 0
-  laid_group h =
-      sym (in_groups (take g.count g.bytes) bytes j (rw n_groups h) ∙ get_or-take g.count g.bytes j 0 h)
-
-  pub laid_length : j ≡ g.count → length bytes ≡ get_or (laid g bytes) j 0
-  laid_length e = sym (is_length (take g.count g.bytes) bytes j (omega (arith, n_groups)))
-
-  pub laid_data : (i : ℕ) → j ≡ g.count + suc i → i < length bytes → get_or bytes i 0 ≡ get_or (laid g bytes) j 0
-  laid_data i e h = sym (in_bytes (take g.count g.bytes) bytes j i (omega (arith, n_groups)) h)
-
-  pub laid_rest : (i : ℕ) → j ≡ g.count + suc i → length bytes ≤ i → j < 56 → 255 ≡ get_or (laid g bytes) j 0
-  laid_rest i e h k =
-      sym (in_rest (take g.count g.bytes) bytes j (i - length bytes) (omega (arith, n_groups)) k)
+pub all_laid : (v : ℕ) (gs bytes x y : List ℕ) (n : ℕ) → gs ≡ groups 4 v → length bytes ≤ 48 → x ≡ gs → y ≡ bytes → n ≡ length gs
+    → put_mid (n + 1) (n + 1 + length bytes - (n + 1)) (set (x ++ drop n (replicate 56 255)) n (length bytes)) y ≡ written (record { serial = v; bytes = bytes })
+unfolding written
+all_laid v gs bytes x y n is h ex ey en =
+    rw (ex, ey, en) (copied gs bytes (rw is (few_groups 4 v)) h ∙ rw (is, last_group (length bytes) (omega arith)) refl)
 
 -- ---- words
 
@@ -112,25 +99,21 @@ word_at (a ∷ b ∷ c ∷ d ∷ l) (suc i) h =
     let p3 : 4 * suc i + 3 ≡ suc (suc (suc (suc (4 * i + 3)))) = omega arith in
     rw (p1, p2, p3, p0) (word_at l i (omega arith))
 
-pub laid_long : (g : Groups) (bytes : List ℕ) → g.count ≤ 4 → length bytes ≤ 48 → length (laid g bytes) ≡ 56
-laid_long g bytes h k = simp (length-append, length-replicate, length-take) (omega arith)
-
-pub laid_written : (v : ℕ) (g : Groups) (bytes : List ℕ) → GroupsOf v g → length bytes ≤ 48
-    → laid g bytes ≡ written (record { serial = v; bytes = bytes })
-unfolding written
-laid_written v g bytes h k =
-    let one : groups 4 (length bytes) ≡ length bytes ∷ [] = few (length bytes) (omega arith) in
-    rw (h.are, one)
-  where
-    few : (n : ℕ) → n < 128 → groups 4 n ≡ n ∷ []
-    few n b = sym (one_group n b).are
-
-pub words_long : (g : Groups) (bytes : List ℕ) → g.count ≤ 4 → length bytes ≤ 48 → length (words_of (laid g bytes)) ≡ 14
-words_long g bytes h k = words_length (laid g bytes) ∙ rw (laid_long g bytes h k) refl
-
 -- One word more.
-pub grown : (w l : List ℕ) (i v : ℕ) → i < length w → i < length l → v ≡ get_or l i 0 → take i w ≡ take i l → take (i + 1) (set w i v) ≡ take (i + 1) l
-grown w l i v h k e f = rw (add-one, take-suc-set w i v h, take-suc l i 0 k, e, f) refl
+pub word_laid : (w l : List ℕ) (i v : ℕ) → length w ≡ 14 → length l ≡ 56 → i < 14 → take i w ≡ take i (words_of l)
+    → v ≡ get_or l (4 * i) 0 + 256 * get_or l (4 * i + 1) 0 + 65536 * get_or l (4 * i + 2) 0 + 16777216 * get_or l (4 * i + 3) 0
+    → take (i + 1) (set w i v) ≡ take (i + 1) (words_of l)
+word_laid w l i v n m h e is =
+    let a : i < length w = omega arith in
+    let k : length (words_of l) ≡ 14 = words_length l ∙ rw m refl in
+    let b : i < length (words_of l) = omega arith in
+    rw (add-one, take-suc-set w i v a, take-suc (words_of l) i 0 b, e, is, word_at l i (omega arith)) refl
 
-pub whole : (w l : List ℕ) (i : ℕ) → 14 ≤ i → length w ≡ 14 → length l ≡ 14 → take i w ≡ take i l → w ≡ l
-whole w l i h a b e = sym (take_all i w (omega arith)) ∙ e ∙ take_all i l (omega arith)
+pub written_long : (v : ℕ) (bytes : List ℕ) → length bytes ≤ 48 → length (written (record { serial = v; bytes = bytes })) ≡ 56
+unfolding written
+written_long v bytes h = rw (last_group (length bytes) (omega arith)) (simp (length-append, length-replicate) (omega (arith, few_groups 4 v)))
+
+pub all_words : (w l : List ℕ) (i : ℕ) → 14 ≤ i → length w ≡ 14 → length l ≡ 56 → take i w ≡ take i (words_of l) → w ≡ words_of l
+all_words w l i h n m e =
+    let k : length (words_of l) ≡ 14 = words_length l ∙ rw m refl in
+    sym (take_all i w (omega arith)) ∙ e ∙ take_all i (words_of l) (omega arith)

@@ -1,103 +1,61 @@
 // What a write puts into words 2 to 15 of a slot. scan_queue/specs/Payload.antt says it (`written`).
 #![tactic(auto)]
 
-ghost use Rattle.std.specs.Prelude.{◌≡◌, ◌+◌, ◌≤◌, ◌<◌, length, get_or};
-ghost use Rattle.scan_queue.specs.Payload.{words_of, written};
-ghost use Rattle.payloads.specs.Fill.{GroupsOf, laid};
+ghost use Rattle.std.specs.Prelude.{◌≡◌, ◌≤◌, ◌<◌, length};
+ghost use Rattle.scan_queue.specs.Payload.{groups, words_of, written};
+
+use arrayvec::ArrayVec;
+use scan_queue::PAYLOAD_BYTES;
 
 // Groups of seven bits, low group first.
-#[derive(Clone, Copy)]
-pub struct Groups {
-    pub count: usize,
-    pub bytes: [u8; 4],
-}
-
-pub fn groups_of(v: u32) -> Groups
+#[tactic(auto, using(crate::proofs::Laying::group_room, crate::proofs::Laying::group_laid, crate::proofs::Laying::groups_laid))]
+pub fn groups_of(v: u32) -> ArrayVec<u8, 4>
     requires { v < 268435456 }
-    ensures { GroupsOf v result }
+    ensures { result.items ≡ groups 4 v }
 {
-    if v < 128 {
-        return Groups {
-            count: 1,
-            bytes: [v as u8, 0, 0, 0],
-        };
+    let mut groups = ArrayVec::new();
+    let mut rest = v;
+    while 128 <= rest {
+        groups.push((rest % 128 + 128) as u8);
+        rest /= 128;
     }
-    let w = v / 128;
-    if w < 128 {
-        return Groups {
-            count: 2,
-            bytes: [(v % 128 + 128) as u8, w as u8, 0, 0],
-        };
-    }
-    let x = w / 128;
-    if x < 128 {
-        return Groups {
-            count: 3,
-            bytes: [(v % 128 + 128) as u8, (w % 128 + 128) as u8, x as u8, 0],
-        };
-    }
-    let y = x / 128;
-    Groups {
-        count: 4,
-        bytes: [
-            (v % 128 + 128) as u8,
-            (w % 128 + 128) as u8,
-            (x % 128 + 128) as u8,
-            y as u8,
-        ],
-    }
+    groups.push(rest as u8);
+    groups
 }
 
-fn wide(b: u8) -> u32
-    ensures { (result ≡ b) × (result < 256) }
-{
-    b as u32
+// A scan that is to be written.
+#[derive(Clone, Copy)]
+pub struct Scan<'a> {
+    pub serial: u32,
+    pub bytes: &'a [u8],
 }
 
-// Byte `j` of the 56.
-pub fn laid_byte(g: Groups, bytes: &[u8], j: usize) -> u32
-    requires { (g.count ≤ 4) × (length bytes.now ≤ 48) × (j < 56) }
-    ensures { (result ≡ get_or (laid g bytes.now) j 0) × (result < 256) }
+// The 56 bytes: the serial's groups, the length, the scan's bytes, and ones to the end.
+fn laid_bytes(scan: Scan) -> [u8; PAYLOAD_BYTES]
+    requires { (scan.serial < 268435456) × (length scan.bytes.now ≤ 48) }
+    ensures { result ≡ written (record { serial = scan.entry.serial; bytes = scan.entry.bytes.now }) }
 {
-    let n = g.count;
-    if j < n {
-        let t = g.bytes;
-        return wide(t[j]);
-    }
-    let k = j - n;
-    if k == 0 {
-        return bytes.len() as u32;
-    }
-    let i = k - 1;
-    if i < bytes.len() {
-        return wide(bytes[i]);
-    }
-    255
-}
-
-// Word `i` of the 14.
-pub fn laid_word(g: Groups, bytes: &[u8], i: usize) -> u32
-    requires { (g.count ≤ 4) × (length bytes.now ≤ 48) × (i < 14) }
-    ensures { result ≡ get_or (words_of (laid g bytes.now)) i 0 }
-{
-    let a = laid_byte(g, bytes, 4 * i);
-    let b = laid_byte(g, bytes, 4 * i + 1);
-    let c = laid_byte(g, bytes, 4 * i + 2);
-    let d = laid_byte(g, bytes, 4 * i + 3);
-    a + 256 * b + 65536 * c + 16777216 * d
+    let bytes = scan.bytes;
+    let groups = groups_of(scan.serial);
+    let n = groups.len();
+    let start = n + 1;
+    let mut laid = [0xFF; PAYLOAD_BYTES];
+    laid[..n].copy_from_slice(groups.as_slice());
+    laid[n] = bytes.len() as u8;
+    laid[start..start + bytes.len()].copy_from_slice(bytes);
+    laid
 }
 
 // Words 2 to 15 of a slot that holds this scan.
-pub fn payload_words(serial: u32, bytes: &[u8]) -> [u32; 14]
-    requires { (serial < 268435456) × (length bytes.now ≤ 48) }
-    ensures { result ≡ words_of (written (record { serial = serial; bytes = bytes.now })) }
+pub fn payload_words(scan: Scan) -> [u32; 14]
+    requires { (scan.serial < 268435456) × (length scan.bytes.now ≤ 48) }
+    ensures { result ≡ words_of (written (record { serial = scan.entry.serial; bytes = scan.entry.bytes.now })) }
 {
-    let g = groups_of(serial);
-    let mut w = [0u32; 14];
-    let mut i: usize = 0;
-    while i < 14 {
-        w[i] = laid_word(g, bytes, i);
-        i += 1;
+    let laid = laid_bytes(scan);
+    let mut words = [0; 14];
+    for (i, word) in words.iter_mut().enumerate() {
+        let at = 4 * i;
+        *word = u32::from_le_bytes([laid[at], laid[at + 1], laid[at + 2], laid[at + 3]]);
     }
-    w
+    words
 }

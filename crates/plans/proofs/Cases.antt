@@ -1,4 +1,5 @@
 -- Which plan an operation has, by its checks. Assumes nothing.
+use Rattle.std.specs.Prelude.{Err}
 use Prim.Native.Nat.{ℕ}
 use mathlib.Core.Path.{◌≡◌, refl}
 use mathlib.Core.Bool.{true, false, ◌||◌, not}
@@ -35,7 +36,7 @@ unfolding plan_of
 plan_case c f o b =
     by_test (accepts (whole_answer c f))
     (λ free.
-    by_test (short_buffer o b) (λ short. refuses ShortBuffer refl refl (rw (free, short)))
+    by_test (short_buffer o b) (λ short. refuses (Err ShortBuffer) refl refl (rw (free, short)))
     (λ room.
     by_test (starts o (operation_answer c.setup o)) (λ s. begins free room s (rw (free, room, s))) (λ n. records n (rw (free, room, n)))))
     (λ n. refuses (whole_answer c f) n (early_unrecorded c f) (rw n))

@@ -4,7 +4,7 @@ use Prim.Native.Nat.{ℕ}
 use mathlib.Core.Path.{◌≡◌, refl, sym, ap}
 use mathlib.Core.Bool.{true, false}
 use mathlib.Core.List.{List, [], ◌∷◌, ◌++◌}
-use lib.ListN.{take, replicate}
+use lib.ListN.{length, take, replicate}
 use Rattle.model.specs.Geometry.{image_page, word_at}
 use Rattle.model.specs.Words.{all_ones, programmed, changed_bits, differ_in}
 use Rattle.model.specs.Places.{total_words, place_of}
@@ -69,17 +69,36 @@ pub record Meets (o : Operation) (b : List ℕ) (ks : List Drive) : Type 0 where
   pub goes : starts o (start ready o).answer ≡ true
   pub ended : Ended b (end o ks)
 
+-- Words are the first ones of a buffer if they are these, and these are.
+firsts : (given b ws : List ℕ) → given ≡ ws → ws ≡ take (length ws) b → given ≡ take (length given) b
+firsts given b ws e h = rw e h
+
 pub program_meets : Meets program program_buffer program_calls
 unfolding image_page word_at programmed total_words place_of held queue_of pushed oldest popped leading data_ruling ruling_at allowed_words denied readable_words malformed out_of_range crosses_window operation_answer settings_fit work_fits running_fits physical_fits valid flash_fits valid_with recorded error_address configured set_region initialise_answer initialise start_answer start push_answer push stalls delivered read_word counted_bits advance step_progress step pop_answer pop whole_answer
-program_meets = record { free = refl; room = refl; goes = refl; ended = record { idle = refl; drained = refl; in_order = refl } }
+program_meets = record {
+  free = refl;
+  room = refl;
+  goes = refl;
+  ended = record { idle = refl; drained = refl; in_order = firsts (end program program_calls).given program_buffer (5 ∷ 6 ∷ []) refl refl };
+}
 
 pub read_meets : Meets read read_buffer read_calls
 unfolding image_page word_at programmed total_words place_of held queue_of pushed oldest popped leading data_ruling ruling_at allowed_words denied readable_words malformed out_of_range crosses_window operation_answer settings_fit work_fits running_fits physical_fits valid flash_fits valid_with recorded error_address configured set_region initialise_answer initialise start_answer start push_answer push stalls delivered read_word counted_bits advance step_progress step pop_answer pop whole_answer
-read_meets = record { free = refl; room = refl; goes = refl; ended = record { idle = refl; drained = refl; in_order = refl } }
+read_meets = record {
+  free = refl;
+  room = refl;
+  goes = refl;
+  ended = record { idle = refl; drained = refl; in_order = firsts (end read read_calls).given read_buffer [] refl refl };
+}
 
 pub cut_meets : Meets cut read_buffer read_calls
 unfolding image_page word_at programmed total_words place_of held queue_of pushed oldest popped leading data_ruling ruling_at allowed_words denied readable_words malformed out_of_range crosses_window operation_answer settings_fit work_fits running_fits physical_fits valid flash_fits valid_with recorded error_address configured set_region initialise_answer initialise start_answer start push_answer push stalls delivered read_word counted_bits advance step_progress step pop_answer pop whole_answer
-cut_meets = record { free = refl; room = refl; goes = refl; ended = record { idle = refl; drained = refl; in_order = refl } }
+cut_meets = record {
+  free = refl;
+  room = refl;
+  goes = refl;
+  ended = record { idle = refl; drained = refl; in_order = firsts (end cut read_calls).given read_buffer [] refl refl };
+}
 
 -- So the law applies to each:
 same : (o : Operation) (b : List ℕ) (ks : List Drive) → Meets o b ks → SameAs o b (whole ready image o b) (end o ks)

@@ -1,4 +1,5 @@
 -- Any driver of a started operation: the calls that change nothing, and a fact that each call keeps. Assumes nothing.
+use Rattle.std.specs.Prelude.{Err}
 use Prim.Native.Nat.{ℕ, ◌<◌}
 use native.Mathlib.Nat.{add-zero}
 use native.Mathlib.Omega.{arith}
@@ -50,7 +51,7 @@ module _ {c : Controller} {es : Errors} {w : Work} {k : ℕ} {q : Queues} (b : B
 
   -- as every push is if it is no program;
   pub pushes_same : is_program (operation_of w) ≡ false → (v : ℕ) → pushing v r ≡ r
-  pushes_same e v = push_same v Unexpected refl (pushes_unexpected b fits v e)
+  pushes_same e v = push_same v (Err Unexpected) refl (pushes_unexpected b fits v e)
 
   -- and a pop changes nothing if no word is there.
   pub pops_same : is_empty q.reads ≡ true → popping r ≡ r

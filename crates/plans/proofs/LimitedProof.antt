@@ -1,4 +1,5 @@
 -- With a step for each of its words, an operation that is driven by its calls is the whole operation. Assumes nothing.
+use Rattle.std.specs.Prelude.{Err}
 use Prim.Native.Nat.{ℕ, min}
 use native.Mathlib.Omega.{arith}
 use mathlib.Core.Path.{◌≡◌, ap}
@@ -17,7 +18,7 @@ driven_to_its_end steps c f o b h =
     let all : min steps (total_words c.setup.pages o) ≡ total_words c.setup.pages o = omega arith in
     ap
     (λ (n : ℕ). cond (accepts (whole_answer c f))
-    (cond (short_buffer o b) (leaving c ShortBuffer 0 f b)
+    (cond (short_buffer o b) (leaving c (Err ShortBuffer) 0 f b)
     (cond (starts o begun.answer)
     (completed begun.answer (turns o n (record { controller = begun.controller; flash = f; buffer = b; bits = 0 })))
     (leaving begun.controller begun.answer 0 f b)))

@@ -1,6 +1,5 @@
 -- A controller that has started an operation and moved some of its words: what each call makes of it. Assumes nothing.
-use Rattle.std.specs.Prelude.{Err}
-use Rattle.std.specs.Prelude.{None, Some}
+use Rattle.std.specs.Prelude.{None, Some, Err}
 use Prim.Native.Nat.{ℕ, ◌+◌, ◌<◌, ◌≤◌}
 use native.Mathlib.Omega.{arith}
 use mathlib.Core.Path.{◌≡◌, refl, sym, ap, ◌∙◌}
@@ -149,7 +148,7 @@ module _ {c : Controller} {es : Errors} {w : Work} {k : ℕ} {q : Queues} (b : B
 
   -- if there is one.
   pub pops_none : is_empty q.reads ≡ true
-      → pop (state_at c es w k q) ≡ record { controller = state_at c es w k q; answer = QueueEmpty; word = 0 }
+      → pop (state_at c es w k q) ≡ record { controller = state_at c es w k q; answer = Err QueueEmpty; word = 0 }
   unfolding state_at pop pop_answer
   pops_none e = simp (valid_at, e)
 
@@ -202,6 +201,6 @@ module _ {c : Controller} {es : Errors} {w : Work} {k : ℕ} {q : Queues} (b : B
   pushes e = sym (push_accepted (state_at c es w k q) v (ready_at b h) e)
 
   -- and it is always refused if there is no program.
-  pub pushes_unexpected : is_program (operation_of w) ≡ false → push (state_at c es w k q) v ≡ refused (state_at c es w k q) Unexpected
+  pub pushes_unexpected : is_program (operation_of w) ≡ false → push (state_at c es w k q) v ≡ refused (state_at c es w k q) (Err Unexpected)
   pushes_unexpected e =
-      pushes_refused Unexpected refl (unexpected c (state_at c es w k q) w (words_of c w) k e (work_parts _ _ w b.work))
+      pushes_refused (Err Unexpected) refl (unexpected c (state_at c es w k q) w (words_of c w) k e (work_parts _ _ w b.work))

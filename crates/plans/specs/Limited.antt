@@ -1,6 +1,6 @@
 -- A whole operation for at most so many steps: start, then for each word in order its step, with a push before it or a pop after
 -- it. Where the steps do not reach, the operation stays in progress. (02, L11: 'Cut the power between any two steps')
-use Rattle.std.specs.Prelude.{ℕ, ◌≤◌, min, ◌≡◌, cond, List}
+use Rattle.std.specs.Prelude.{ℕ, ◌≤◌, min, ◌≡◌, cond, List, Err}
 use Rattle.model.specs.Places.{total_words}
 use Rattle.model.specs.State.{Flash}
 use Rattle.model.specs.Refusals.{accepts}
@@ -22,7 +22,7 @@ driven_from steps d o s f b =
 unfoldable pub driven : ℕ → Controller → Flash → Operation → List ℕ → WholeLeaves
 driven steps c f o b =
     cond (accepts (whole_answer c f))
-    (cond (short_buffer o b) (leaving c ShortBuffer 0 f b) (driven_from steps c.setup.pages o (start c o) f b))
+    (cond (short_buffer o b) (leaving c (Err ShortBuffer) 0 f b) (driven_from steps c.setup.pages o (start c o) f b))
     (leaving c (whole_answer c f) 0 f b)
 
 -- With a step for each of its words it is the whole operation.

@@ -1,6 +1,6 @@
 -- What a whole operation does: a plan, which checks and lengths decide, and the performance of the plan at its places.
 -- Neither mentions a step or a queue's words.
-use Rattle.std.specs.Prelude.{ℕ, zero, suc, ◌+◌, ◌≡◌, cond, List, [], ◌∷◌, ◌++◌, length, get_or, drop}
+use Rattle.std.specs.Prelude.{ℕ, zero, suc, ◌+◌, ◌≡◌, cond, List, [], ◌∷◌, ◌++◌, length, get_or, drop, Err}
 use Rattle.model.specs.Words.{all_ones, programmed}
 use Rattle.model.specs.Kinds.{is_read, is_program}
 use Rattle.model.specs.Places.{total_words, place_of}
@@ -57,7 +57,7 @@ plan_answered s o a = cond (starts o a) (plan_started s o a) (Recorded a)
 unfoldable pub plan_of : Controller → Flash → Operation → List ℕ → Plan
 plan_of c f o b =
     cond (accepts (whole_answer c f))
-    (cond (short_buffer o b) (Refused ShortBuffer) (plan_answered c.setup o (operation_answer c.setup o)))
+    (cond (short_buffer o b) (Refused (Err ShortBuffer)) (plan_answered c.setup o (operation_answer c.setup o)))
     (Refused (whole_answer c f))
 
 -- ---- its performance

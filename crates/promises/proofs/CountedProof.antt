@@ -1,5 +1,5 @@
 -- Exactly its words. Assumes nothing.
-use Rattle.std.specs.Prelude.{None, Some, Option}
+use Rattle.std.specs.Prelude.{None, Some, Option, Err}
 use Prim.Native.Nat.{ℕ, ◌+◌, ◌-◌, ◌<◌}
 use native.Mathlib.Omega.{arith}
 use mathlib.Core.Path.{◌≡◌, refl, sym, ap, ◌∙◌}
@@ -49,14 +49,14 @@ module _ (n k : ℕ) (some : k < n) where
       (λ t. rw t (omega arith))
 
   -- answers finished if it is the last and moved if it is not,
-  movement_counts : counted_by (n - k) (movement n k) true ≡ true
+  movement_counts : counted_by (n - k) (Some (movement n k)) true ≡ true
   movement_counts =
       by_test (eqb (k + 1) n)
       (λ t. rw (t, and-true) (eq-eqb (n - k) 1 (omega (arith, eqb-true (k + 1) n t))))
       (λ t. rw (t, and-true) (lt-ltb 1 (n - k) (omega (arith, eqb-false (k + 1) n t))))
 
   -- and counts as one.
-  movement_left : left_after (n - k) (movement n k) ≡ n - k - 1
+  movement_left : left_after (n - k) (Some (movement n k)) ≡ n - k - 1
   movement_left = by_test (eqb (k + 1) n) (λ t. rw t) (λ t. rw t)
 
 -- ---- a step of work in progress
@@ -144,7 +144,7 @@ idle_tells : (s : State) → s.controller.progress ≡ None → Tells s Step
 unfolding step_progress
 idle_tells s e =
     by_test (accepts (ready_answer (valid_with s.controller s.flash) s.controller.phase))
-    (λ t. still_tells s Unexpected None (step_ready s.controller s.flash t e) (λ w. (refl, refl)))
+    (λ t. still_tells s (Err Unexpected) None (step_ready s.controller s.flash t e) (λ w. (refl, refl)))
     (λ t. still_tells s _ None (step_unready s.controller s.flash t) (λ w. (refl, refl)))
 
 -- work, which waits or moves.

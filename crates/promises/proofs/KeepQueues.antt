@@ -2,7 +2,7 @@
 use Rattle.std.specs.Prelude.{None, Some}
 use Prim.Native.Nat.{ℕ, ◌+◌, ◌<◌}
 use native.Mathlib.Omega.{arith}
-use mathlib.Core.Path.{◌≡◌, refl, sym, ◌∙◌}
+use mathlib.Core.Path.{◌≡◌, sym, ◌∙◌}
 use mathlib.Core.Bool.{true, false, not, or-false, true≢false}
 use borrow.Author.Tests.{le-leb}
 use Rattle.model.specs.Queue.{is_empty, pushed, popped}

@@ -1,5 +1,5 @@
 -- A start keeps a valid state valid. Assumes nothing.
-use mathlib.Core.Path.{◌≡◌, refl}
+use mathlib.Core.Path.{◌≡◌}
 use mathlib.Core.Bool.{true, false}
 use Rattle.model.specs.State.{is_busy}
 use Rattle.model.specs.Refusals.{accepts, ready_answer, number_of}

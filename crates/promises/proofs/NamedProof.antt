@@ -1,5 +1,5 @@
 -- A denied call names who decided, and every other answer reports none. Assumes nothing.
-use Rattle.std.specs.Prelude.{None, Some}
+use Rattle.std.specs.Prelude.{None, Some, Err}
 use Prim.Native.Nat.{ℕ, ◌+◌}
 use mathlib.Core.Path.{◌≡◌, refl, sym, ◌∙◌}
 use mathlib.Core.Bool.{Bool, true, false, ◌&&◌, ◌||◌, not, cond, true≢false}
@@ -32,6 +32,7 @@ use Rattle.model.specs.declared.Phase.{Phase}
 use Rattle.model.specs.declared.Phase.TheVariants as phase
 use Rattle.model.specs.Refusals.{Answer}
 use Rattle.model.specs.Refusals.{accepted}
+use Rattle.model.specs.declared.Refusal.{Refusal}
 use Rattle.model.specs.declared.Refusal.TheVariants.{Invalid, Disabled, Uninitialised, Busy, Malformed, ShortBuffer, OutOfRange, CrossesWindow, Denied, QueueEmpty, QueueFull, Unexpected, BadSetting}
 use Rattle.model.proofs.Bool.{by_test}
 use Rattle.model.proofs.Deciders.{denied_first}
@@ -55,9 +56,9 @@ plain : {n : ℕ} {N : ℕ → Type 0} (a : Answer) → is_denied a ≡ false �
 plain a h = record { says = rw h (undenied_reports_none a h); only = λ e. absurd (true≢false (sym e ∙ h)) }
 
 -- a check,
-checks : {n : ℕ} {N : ℕ → Type 0} (t : Bool) (a : Answer) → is_denied a ≡ false → Right n N (check t a)
-checks true a h = plain a h
-checks false a h = plain accepted refl
+checks : {n : ℕ} {N : ℕ → Type 0} (t : Bool) (r : Refusal) → is_denied (Err r) ≡ false → Right n N (check t r)
+checks true r h = plain (Err r) h
+checks false r h = plain accepted refl
 
 -- the first of two that applies,
 either : {n : ℕ} {N : ℕ → Type 0} (a b : Answer) → Right n N a → Right n N b → Right n N (or_else a b)
@@ -65,10 +66,10 @@ either a b r q = by_test (accepts a) (λ t. rw t q) (λ t. rw t r)
 
 -- checks 1, 2 and 3,
 ready : {n : ℕ} {N : ℕ → Type 0} (v : Bool) (p : Phase) → Right n N (ready_answer v p)
-ready false p = plain Invalid refl
-ready true phase.Uninitialised = plain Uninitialised refl
+ready false p = plain (Err Invalid) refl
+ready true phase.Uninitialised = plain (Err Uninitialised) refl
 ready true phase.Ready = plain accepted refl
-ready true phase.Disabled = plain Disabled refl
+ready true phase.Disabled = plain (Err Disabled) refl
 
 -- and check 9.
 denies : {N : ℕ → Type 0} (d : Bool) (by : Decider) → (d ≡ true → N (decider_number by)) → Right (decider_number by) N (check d (Denied by))
@@ -146,18 +147,18 @@ whole_right c f o b =
     by_test (accepts (whole_answer c f))
     (λ e.
     by_test (short_buffer o b)
-    (λ t. rw (e, t) (plain ShortBuffer refl))
+    (λ t. rw (e, t) (plain (Err ShortBuffer) refl))
     (λ t. rw (e, t, drive_answers c.setup.pages o (start c o) f b) (start_right c o)))
     (λ e. rw e (either _ _ (ready (valid_with c f) c.phase) (checks (is_busy c.progress || not (both_empty c.queues)) Busy refl)))
 
 -- push,
 push_right : (c : Controller) (p : Progress) → Never (push_answer c p)
 unfolding push_answer
-push_right c None = plain Unexpected refl
-push_right c (Some (Read o moved readable)) = plain Unexpected refl
+push_right c None = plain (Err Unexpected) refl
+push_right c (Some (Read o moved readable)) = plain (Err Unexpected) refl
 push_right c (Some (Program o moved)) =
     either _ _ (checks (leb o.count (moved + c.queues.programs.len)) Unexpected refl) (checks (is_full c.queues.programs) QueueFull refl)
-push_right c (Some (Erase o moved)) = plain Unexpected refl
+push_right c (Some (Erase o moved)) = plain (Err Unexpected) refl
 
 -- pop,
 pop_right : (c : Controller) → Never (pop_answer c)
@@ -167,7 +168,7 @@ pop_right c = either _ _ (checks (not (valid c)) Invalid refl) (checks (is_empty
 -- step,
 progress_right : (c : Controller) (f : Flash) (p : Progress) → Never (step_progress c f p).result.answer
 unfolding step_progress
-progress_right c f None = plain Unexpected refl
+progress_right c f None = plain (Err Unexpected) refl
 progress_right c f (Some w) = rw (running_accepts c f w) (plain accepted refl)
 
 step_right : (c : Controller) (f : Flash) → Never (step c f).result.answer

@@ -6,6 +6,7 @@ ghost use Rattle.model.specs.Queue.{empty_queue, is_full, pushed, oldest, popped
 
 use model::{QUEUE_WORDS, Queue, WIDE_QUEUE_WORDS};
 
+#[tactic(auto, unfolding(model::specs::Queue::queue_of))]
 pub fn empty() -> Queue
     ensures { result ≡ empty_queue }
 {
@@ -27,19 +28,17 @@ fn kept(old: [u32; WIDE_QUEUE_WORDS], from: usize, count: usize) -> [u32; WIDE_Q
     ensures { result ≡ take count (drop from old) ++ replicate (16 - count) 0 }
 {
     let mut words = [0u32; WIDE_QUEUE_WORDS];
-    for i in 0..count {
-        words[i] = old[from + i];
-    }
+    words[..count].copy_from_slice(&old[from..from + count]);
     words
 }
 
+#[tactic(auto, using(crate::proofs::Places::stored_is_pushed))]
 pub fn push(q: Queue, word: u32) -> Queue
     requires { q.len < 16 }
     ensures { result ≡ pushed q word }
 {
     let n = q.len as usize;
-    let old = q.words;
-    let mut words = kept(old, 0, n);
+    let mut words = kept(q.words, 0, n);
     words[n] = word;
     Queue {
         words,
@@ -47,23 +46,22 @@ pub fn push(q: Queue, word: u32) -> Queue
     }
 }
 
+#[tactic(auto, unfolding(model::specs::Queue::oldest, model::specs::Queue::held))]
 pub fn oldest(q: Queue) -> u32
     requires { (0 < q.len) × (q.len ≤ 16) }
     ensures { result ≡ oldest q }
 {
-    let words = q.words;
-    words[0]
+    q.words[0]
 }
 
+#[tactic(auto, using(crate::proofs::Places::kept_is_popped))]
 pub fn pop(q: Queue) -> Queue
     requires { (0 < q.len) × (q.len ≤ 16) }
     ensures { result ≡ popped q }
 {
     let n = q.len as usize;
-    let old = q.words;
-    let words = kept(old, 1, n - 1);
     Queue {
-        words,
+        words: kept(q.words, 1, n - 1),
         len: q.len - 1,
     }
 }

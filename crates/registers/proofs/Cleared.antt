@@ -8,17 +8,7 @@ use Rattle.model.specs.Queue.{queue_of}
 use Rattle.model.specs.State.{reset_controller}
 use Rattle.registers.specs.Registers.{regions_of, info_of, progress_at, stands_for, encoded, decode, zeroed, cleared}
 
--- The first register of those that are left is 0 next,
-pub zeroed_next : (s : List ℕ) (i n m : ℕ) → n ≡ suc m → zeroed s i n ≡ zeroed (set s i 0) (i + 1) m
-unfolding zeroed
-zeroed_next s i n m e = rw e
-
--- until none is left.
-pub zeroed_none : (s : List ℕ) (i n : ℕ) → n ≡ 0 → zeroed s i n ≡ s
-unfolding zeroed
-zeroed_none s i n e = rw e
-
--- What lies before them stays,
+-- What lies before registers that are zeroed stays,
 zeroed_behind : (x : ℕ) (s : List ℕ) (i n : ℕ) → zeroed (x ∷ s) (suc i) n ≡ x ∷ zeroed s i n
 unfolding zeroed
 zeroed_behind x s i zero = refl
@@ -32,9 +22,16 @@ unfolding zeroed
 zeroed_all [] = refl
 zeroed_all (x ∷ s) = zeroed_behind 0 s 0 (length s) ∙ ap (λ (t : List ℕ). 0 ∷ t) (zeroed_all s)
 
+zeros_all : (s : List ℕ) → length s ≡ 137 → zeroed s 0 137 ≡ replicate 137 0
+zeros_all s long = ap (zeroed s 0) (sym long) ∙ zeroed_all s ∙ ap (λ (n : ℕ). replicate n 0) long
+
+-- D written over zeros clears the registers.
+pub zeros_cleared : (s : List ℕ) (d : ℕ) → length s ≡ 137 → set (replicate 137 0) 0 d ≡ cleared s d
+unfolding cleared
+zeros_cleared s d long = rw (zeros_all s long)
+
 -- Registers that are all 0 but D stand for the controller after reset.
 pub decode_cleared : (s : List ℕ) (d : ℕ) → length s ≡ 137 → decode (cleared s d) ≡ reset_controller d
 unfolding cleared decode encoded stands_for regions_of info_of progress_at queue_of
 decode_cleared s d long =
-    let zeros : zeroed s 0 137 ≡ replicate 137 0 = ap (zeroed s 0) (sym long) ∙ zeroed_all s ∙ ap (λ (n : ℕ). replicate n 0) long in
-    rw zeros
+    rw (zeros_all s long)

@@ -1,14 +1,13 @@
 -- What stands in a list that a function of the place makes, copied element by element, and put back. Assumes nothing.
 use Prim.Native.Nat.{ℕ, zero, suc, ◌+◌, ◌<◌, ◌≤◌}
-use native.Mathlib.Nat.{not-suc-le-zero, le_of_suc-le-suc, add-zero, eq-or-lt_of_le}
+use native.Mathlib.Nat.{not-suc-le-zero, le_of_suc-le-suc, add-zero}
 use native.Mathlib.Omega.{arith}
 use mathlib.Core.Path.{◌≡◌, refl, ap, sym, subst, ◌∙◌}
-use mathlib.Core.Logic.{⊎_elim}
 use mathlib.Core.Bool.{Bool, true, false, ◌&&◌}
 use Rattle.model.specs.Valid.{all}
 use mathlib.Core.List.{List}
-use lib.ListN.{length, get_or, set}
-use lib.Seq.{sets, set-get_or, get_or-set_same, get_or-set_other, ext_get_or}
+use lib.ListN.{length, get_or, take, drop, length-drop}
+use lib.Seq.{sets, set-get_or, ext_get_or, get_or-take, get_or-drop, length-take-le}
 use Rattle.model.specs.declared.Region.{Region}
 use Rattle.model.specs.declared.PageSetting.{PageSetting}
 use Rattle.registers.specs.Registers.{listed, every, region_at, setting_at, regions_of, info_of}
@@ -29,27 +28,18 @@ listed_at f n k d h =
     let same : 0 + k ≡ k = omega arith in
     listed_from f 0 n k d h ∙ ap f same
 
--- The first i places hold what f gives from `at` on.
-pub record Copied (f : ℕ → ℕ) (at i : ℕ) (made : List ℕ) : Type 0 where
-  pub same : (k : ℕ) → k < i → get_or made k 0 ≡ f (at + k)
+-- A list is what f gives from `at` on where each of its elements is.
+pub listed_same : (f : ℕ → ℕ) (at n : ℕ) (xs : List ℕ) → length xs ≡ n → ((k : ℕ) → k < n → get_or xs k 0 ≡ f (at + k)) → xs ≡ listed f at n
+listed_same f at n xs long same =
+    ext_get_or 0 xs (listed f at n) (long ∙ sym (listed_length f at n))
+    (λ k h. same k (omega arith) ∙ sym (listed_from f at n k 0 (omega arith)))
 
-pub copied_none : {f : ℕ → ℕ} {at : ℕ} {made : List ℕ} → Copied f at 0 made
-copied_none = record { same = λ k h. absurd (omega arith) }
-
-pub copied_more : {f : ℕ → ℕ} {at i : ℕ} {made : List ℕ} → i < length made → Copied f at i made → Copied f at (i + 1) (set made i (f (at + i)))
-copied_more {f = f} {at = at} {i = i} {made = made} h m = record {
-  same = λ k below.
-      ⊎_elim (λ (e : k ≡ i). rw e (get_or-set_same made i (f (at + i)) 0 h))
-      (λ (b : k < i).
-      let ne : k ≡ i → ⊥ = λ e. omega arith in
-      get_or-set_other made i k (f (at + i)) 0 ne ∙ m.same k b)
-      (eq-or-lt_of_le (omega arith));
-}
-
-pub copied_all : {f : ℕ → ℕ} {at i n : ℕ} {made : List ℕ} → length made ≡ n → n ≤ i → Copied f at i made → made ≡ listed f at n
-copied_all {f = f} {at = at} {n = n} {made = made} long done m =
-    ext_get_or 0 made (listed f at n) (long ∙ sym (listed_length f at n))
-    (λ k h. m.same k (omega arith) ∙ sym (listed_from f at n k 0 (omega arith)))
+-- A part of a list is its elements, one after the other.
+pub part_listed : (s : List ℕ) (at n : ℕ) → at + n ≤ length s → take n (drop at s) ≡ listed (λ k. get_or s k 0) at n
+part_listed s at n fits =
+    let long : n ≤ length (drop at s) = rw length-drop (omega arith) in
+    listed_same (λ k. get_or s k 0) at n (take n (drop at s)) (length-take-le n (drop at s) long)
+    (λ k h. get_or-take n (drop at s) k 0 h ∙ get_or-drop at s k 0)
 
 -- What stands in some places, stored there again, changes nothing.
 pub sets_same : (s : List ℕ) (at n : ℕ) → sets s at (listed (λ k. get_or s k 0) at n) ≡ s

@@ -26,7 +26,7 @@ use Rattle.model.proofs.Bool.{and_left, and_right, by_test}
 use Rattle.registers.specs.Registers.{is_flag, is_on, flag_of, mask_of, phase_of, phase_number, listed, every, progress_encoded, region_encoded, setting_encoded, region_at, setting_at, queue_at, errors_at}
 use Rattle.registers.specs.Registers.{progress_at, operation_at, put_queue, readable_kept, put_progress, put_running, put_region, put_setting, put_erase, put_all, put_from_physical, put_from_errors, put_from_programs}
 use Rattle.registers.specs.Registers.{put_from_reads, put_from_progress, put_from_erase, put_from_info, put_from_regions, put_from_inputs}
-use Rattle.registers.proofs.Listed.{listed_length, listed_at, Copied, copied_all}
+use Rattle.registers.proofs.Listed.{listed_length, listed_at, listed_same}
 
 -- ---- one number
 
@@ -254,8 +254,7 @@ queue_put t at q b e l = record {
 
 pub queue_is : {t : List ℕ} {at : ℕ} {q : Queue} → length q.words ≡ 16 → QueueAt t at q → queue_at t at ≡ q
 queue_is {t = t} {at = at} {q = q} e h =
-    let copied : Copied (λ k. get_or t k 0) at 16 q.words = record { same = λ k b. sym (h.word k b).is } in
-    rw (← copied_all {i = 16} e (omega arith) copied, h.len.is)
+    rw (← listed_same (λ k. get_or t k 0) at 16 q.words e (λ k b. sym (h.word k b).is), h.len.is)
 
 -- ---- what is put later leaves what was put before
 

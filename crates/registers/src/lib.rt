@@ -74,13 +74,11 @@ pub fn pages(s: &Registers) -> u32
 pub fn phase(s: &Registers) -> Phase
     ensures { result ≡ phase_of (get_or s.now phase_at 0) }
 {
-    if s[PHASE] == 1 {
-        return Phase::Ready;
+    match s[PHASE] {
+        1 => Phase::Ready,
+        2 => Phase::Disabled,
+        _ => Phase::Uninitialised,
     }
-    if s[PHASE] == 2 {
-        return Phase::Disabled;
-    }
-    Phase::Uninitialised
 }
 
 pub fn inputs(s: &Registers) -> Inputs
@@ -210,16 +208,15 @@ pub fn lost(s: &Registers, bank: usize) -> u32
     s[LOST + bank]
 }
 
-// ---- the queues
+// ---- the queues: one reader and one writer for both, by names that keep their places in this crate
 
+#[tactic(auto, using(crate::proofs::Listed::part_listed))]
 fn queue(s: &Registers, at: usize) -> Queue
     requires { at ≤ 116 }
     ensures { result ≡ queue_at s.now at }
 {
     let mut words = [0u32; WIDE_QUEUE_WORDS];
-    for i in 0..16usize {
-        words[i] = s[at + i];
-    }
+    words.copy_from_slice(&s[at..at + LENGTH]);
     let len = s[at + LENGTH];
     Queue { words, len }
 }
@@ -252,36 +249,32 @@ pub fn program_count(s: &Registers) -> u32
 // ---- whether every number stands for something
 
 // The flag and the rights of a table's row, as they lie.
-pub fn region_flag(s: &Registers, i: usize) -> u32
+#[derive(Clone, Copy)]
+pub struct Row {
+    pub flag: u32,
+    pub rights: u32,
+}
+
+pub fn region_row(s: &Registers, i: usize) -> Row
     requires { i < 8 }
-    ensures { result ≡ get_or s.now (region_from i + 2) 0 }
+    ensures { result ≡ record { flag = get_or s.now (region_from i + 2) 0; rights = get_or s.now (region_from i + 3) 0 } }
 {
     let at = REGIONS + 4 * i;
-    s[at + 2]
+    Row {
+        flag: s[at + 2],
+        rights: s[at + 3],
+    }
 }
 
-pub fn region_rights(s: &Registers, i: usize) -> u32
-    requires { i < 8 }
-    ensures { result ≡ get_or s.now (region_from i + 3) 0 }
-{
-    let at = REGIONS + 4 * i;
-    s[at + 3]
-}
-
-pub fn page_flag(s: &Registers, i: usize) -> u32
+pub fn page_row(s: &Registers, i: usize) -> Row
     requires { i < 26 }
-    ensures { result ≡ get_or s.now (page_from i) 0 }
+    ensures { result ≡ record { flag = get_or s.now (page_from i) 0; rights = get_or s.now (page_from i + 1) 0 } }
 {
     let at = INFO + 2 * i;
-    s[at]
-}
-
-pub fn page_rights(s: &Registers, i: usize) -> u32
-    requires { i < 26 }
-    ensures { result ≡ get_or s.now (page_from i + 1) 0 }
-{
-    let at = INFO + 2 * i;
-    s[at + 1]
+    Row {
+        flag: s[at],
+        rights: s[at + 1],
+    }
 }
 
 pub fn progress_encoded(s: &Registers) -> bool
@@ -419,14 +412,12 @@ pub fn no_progress(s: &mut Registers)
     s[RUNNING] = 0;
 }
 
+#[tactic(auto, using(model::proofs::Parts::part_stored))]
 fn put_queue(s: &mut Registers, at: usize, q: Queue)
     requires { at ≤ 116 }
     ensures { s.new ≡ put_queue s.old at q }
 {
-    let words = q.words;
-    for i in 0..16usize {
-        s[at + i] = words[i];
-    }
+    s[at..at + LENGTH].copy_from_slice(&q.words);
     s[at + LENGTH] = q.len;
 }
 
@@ -458,11 +449,10 @@ pub fn put_lost(s: &mut Registers, bank: usize, count: u32)
 }
 
 // Every register is 0, but D.
+#[tactic(auto, using(crate::proofs::Cleared::zeros_cleared))]
 pub fn clear(s: &mut Registers, pages: u32)
     ensures { s.new ≡ cleared s.old pages }
 {
-    for i in 0..COUNT {
-        s[i] = 0;
-    }
+    s.fill(0);
     s[PAGES] = pages;
 }

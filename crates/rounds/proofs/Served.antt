@@ -1,8 +1,9 @@
 -- What a round tells and leaves, by who is served. Assumes nothing.
+use Rattle.std.specs.Prelude.{Err, Ok, Some}
 use Prim.Native.Nat.{ℕ, ◌+◌}
 use native.Mathlib.Omega.{arith}
 use mathlib.Core.Path.{◌≡◌, refl, ap, sym, ◌∙◌}
-use mathlib.Core.Bool.{true, false}
+use mathlib.Core.Bool.{Bool, true, false}
 use mathlib.Core.List.{List}
 use lib.Dec.{ltb}
 use lib.ListN.{length, get_or, set}
@@ -11,20 +12,20 @@ use Rattle.model.specs.Refusals.{accepts, ready_answer}
 use Rattle.model.specs.Valid.{lost_limit, valid_with}
 use Rattle.model.specs.Steps.{step}
 use Rattle.model.specs.Host.{host_read}
-use Rattle.model.specs.Rounds.{lost_in, would_move, next_bank, host_served, host_unserved, step_served, host_alone, step_alone, host_goes, step_goes, contest, both_go}
+use Rattle.model.specs.Rounds.{lost_in, would_move, competes, round, next_bank, host_served, host_unserved, step_served, host_alone, step_alone, host_goes, step_goes, contest, both_go}
 use Rattle.model.specs.declared.ByteAddress.{ByteAddress}
 use Rattle.model.specs.declared.HostTurn.{HostTurn}
 use Rattle.model.specs.declared.Turn.TheVariants.{Unasked}
-use Rattle.model.specs.Refusals.{Answer}
+use Rattle.model.specs.declared.Refusal.{Refusal}
 use Rattle.model.specs.declared.Controller.{Controller}
 use Rattle.model.proofs.Bool.{and_left}
-use Rattle.model.proofs.Rounds.{would_go, goes_accepted, step_leaves_alone}
+use Rattle.model.proofs.Rounds.{goes_would, competes_goes, would_go, goes_accepted, step_leaves_alone}
 use Rattle.registers.specs.Layout.{lost_from}
 use Rattle.registers.specs.Registers.{decode, put}
 use Rattle.registers.proofs.Kept.{put_back}
 use Rattle.registers.proofs.Lying.{lost_lies, two_counts}
 use Rattle.registers.proofs.Written.{put_lost}
-use Rattle.calls.specs.Calls.{LeftFlash, host_told, told_host_word, round_left, step_in, host_read_in}
+use Rattle.calls.specs.Calls.{LeftFlash, host_told, told_host_word, round_left, round_in, step_in, host_read_in}
 use Rattle.calls.proofs.Movements.{step_tells}
 use Rattle.calls.specs.declared.ToldStep.{ToldStep}
 use Rattle.calls.specs.declared.ToldHostWord.{ToldHostWord}
@@ -33,8 +34,8 @@ use Rattle.calls.specs.declared.ToldRound.{ToldRound}
 use Rattle.validity.specs.Ready.{Ready}
 use Rattle.steps.proofs.Left.{step_early}
 use Rattle.host.proofs.Hosted.{read_early}
-use Rattle.rounds.specs.Turns.{Going, Contested, served_host, served_step, unserved_host, unserved_step, refused_both}
-use Rattle.rounds.proofs.Going.{going_stands, going_encoded}
+use Rattle.rounds.specs.Turns.{Going, Contested, contends, served_host, served_step, unserved_host, unserved_step, refused_both}
+use Rattle.rounds.proofs.Going.{going_stands, going_encoded, unready_alone, ready_competes}
 
 -- A step that would move has passed checks 1 to 3.
 pub going_ready : (s : List ℕ) (f : Flash) → would_move (decode s) f ≡ true → Ready s f
@@ -65,19 +66,21 @@ unfolding host_read host_read_in
 left_both s f a = step_beside s f (host_served (host_read (decode s) f a))
 
 -- Where checks 1 to 3 refuse, both are told so.
-pub left_refused : (s : List ℕ) (f : Flash) (a : ByteAddress) (answer : Answer)
-    → answer ≡ ready_answer (valid_with (decode s) f) (decode s).phase → accepts answer ≡ false
-    → record { told = refused_both answer; registers = s; flash = f } ≡ round_left s (both_go (decode s) f a)
-left_refused s f a answer asked h =
-    let word : told_host_word answer 0 ≡ host_read_in s f a = rw asked (read_early s f a (rw asked at h)) in
-    ap (beside (served_host (told_host_word answer 0))) (step_early s f answer asked h)
-    ∙ ap (λ (t : ToldHostWord). beside (served_host t) (step_in s f)) word
+pub left_refused : (s : List ℕ) (f : Flash) (a : ByteAddress) {e : Refusal} → ready_answer (valid_with (decode s) f) (decode s).phase ≡ Err e
+    → record { told = refused_both (Err e); registers = s; flash = f } ≡ round_left s (both_go (decode s) f a)
+left_refused s f a {e} w =
+    ap (beside (served_host (told_host_word (Err e) 0))) (step_early s f w)
+    ∙ ap (λ (t : ToldHostWord). beside (served_host t) (step_in s f)) (read_early s f a w)
     ∙ left_both s f a
 
 -- ---- the host alone is served
 
+-- What a host read tells, beside a step that asked nothing.
+abbrev pub lone : List ℕ → Flash → ToldHostWord → LeftFlash ToldRound
+lone s f t = record { told = record { host = served_host t; step = unserved_step 0 0 }; registers = s; flash = f }
+
 pub left_host_alone : (s : List ℕ) (f : Flash) (a : ByteAddress)
-    → record { told = record { host = served_host (host_read_in s f a); step = unserved_step 0 0 }; registers = s; flash = f } ≡ round_left s (host_alone (decode s) f a)
+    → lone s f (host_read_in s f a) ≡ round_left s (host_alone (decode s) f a)
 unfolding host_read_in
 left_host_alone s f a = refl
 
@@ -89,6 +92,14 @@ instead bank l = record {
   told = record { host = unserved_host 1; step = served_step l.told };
   registers = set l.registers (lost_from + bank) 0;
   flash = l.flash;
+}
+
+-- What a host read tells where the step waits, and its bank's count rises.
+abbrev pub before_step : List ℕ → Flash → ℕ → ToldHostWord → LeftFlash ToldRound
+before_step s f bank t = record {
+  told = record { host = served_host t; step = unserved_step 1 3 };
+  registers = set s (lost_from + bank) (get_or s (lost_from + bank) 0 + 1);
+  flash = f;
 }
 
 module _ {s : List ℕ} {f : Flash} {bank : ℕ} (h : Contested s f bank) where
@@ -105,12 +116,7 @@ module _ {s : List ℕ} {f : Flash} {bank : ℕ} (h : Contested s f bank) where
   lost_there = lost_same ∙ ap (lost_in (decode s)) h.same
 
   -- The host goes.
-  pub left_host_goes : (a : ByteAddress)
-      → record {
-        told = record { host = served_host (host_read_in s f a); step = unserved_step 1 3 };
-        registers = set s (lost_from + bank) (get_or s (lost_from + bank) 0 + 1);
-        flash = f;
-      } ≡ round_left s (host_goes (decode s) f a)
+  pub left_host_goes : (a : ByteAddress) → before_step s f bank (host_read_in s f a) ≡ round_left s (host_goes (decode s) f a)
   unfolding host_read host_read_in
   left_host_goes a =
       let back : put s (decode s) ≡ s = ap (put s) (going_stands going) ∙ put_back s (going_encoded going) in
@@ -132,3 +138,32 @@ module _ {s : List ℕ} {f : Flash} {bank : ℕ} (h : Contested s f bank) where
   pub left_contest_step : (a : ByteAddress) → ltb (get_or s (lost_from + bank) 0) lost_limit ≡ false
       → round_left s (step_goes (decode s) f) ≡ round_left s (contest (decode s) f a)
   left_contest_step a t = rw (rw lost_there at t)
+
+-- ---- both are asked
+
+module _ (s : List ℕ) (f : Flash) (a : ByteAddress) where
+  -- Refused by checks 1 to 3,
+  pub asked_refused : {e : Refusal} → ready_answer (valid_with (decode s) f) (decode s).phase ≡ Err e
+      → record { told = refused_both (Err e); registers = s; flash = f } ≡ round_in s f (Some a) true
+  unfolding round_in round
+  asked_refused w = rw (unready_alone s f a (rw w)) (left_refused s f a w)
+
+  -- or not: in one bank they compete,
+  module _ {done : Unit} (w : ready_answer (valid_with (decode s) f) (decode s).phase ≡ Ok done) where
+    pub asked_ready : Ready s f
+    asked_ready = rw w
+
+    competing : {t : Bool} → contends s a ≡ t → competes (decode s) f a ≡ t
+    competing h = sym (ready_competes s f asked_ready a) ∙ h
+
+    pub asked_goes : contends s a ≡ true → would_move (decode s) f ≡ true
+    asked_goes h = goes_would _ _ (competes_goes _ _ _ (competing h))
+
+    pub asked_contest : contends s a ≡ true → round_left s (contest (decode s) f a) ≡ round_in s f (Some a) true
+    unfolding round_in round
+    asked_contest h = rw (competing h)
+
+    -- in two both are served.
+    pub asked_both : contends s a ≡ false → round_left s (both_go (decode s) f a) ≡ round_in s f (Some a) true
+    unfolding round_in round
+    asked_both h = rw (competing h)

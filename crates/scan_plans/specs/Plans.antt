@@ -1,6 +1,7 @@
 -- What the code's decisions mean: what a write does, and the scan that a take hands out.
-use Rattle.std.specs.Prelude.{ℕ, ◌+◌, ◌-◌, ◌≤◌, ◌<◌, ◌≡◌, List, [], ◌∷◌, ◌++◌, length, replicate}
+use Rattle.std.specs.Prelude.{ℕ, ◌+◌, ◌-◌, ◌≤◌, ◌<◌, ◌≡◌, List, [], ◌∷◌, ◌++◌, length, replicate, Option, None, Some, Result, Ok, Err, IfOk}
 use Rattle.slots.specs.declared.Found.{Found}
+use Rattle.scan_queue.specs.declared.ScanRefusal.{ScanRefusal}
 use Rattle.scan_queue.specs.Payload.{Scan, max_length}
 use Rattle.scan_queue.specs.Slots.{Entry}
 use Rattle.scan_queue.specs.Decisions.{Decision, Refused, Puts, Erases, write}
@@ -8,30 +9,28 @@ use Rattle.slots.specs.Code.{payload_bytes, to_scan}
 use Rattle.scan_plans.specs.declared.WritePlan.{WritePlan}
 use Rattle.scan_plans.specs.declared.WritePlan.TheVariants as write_plan
 use Rattle.scan_plans.specs.declared.TakePlan.{TakePlan}
-use Rattle.scan_plans.specs.declared.TakePlan.TheVariants as take_plan
 
 -- ---- a write of these bytes
 
 abbrev pub scan_with : ℕ → List ℕ → Scan
 scan_with serial bytes = record { serial = serial; bytes = bytes }
 
-abbrev pub decision_of : List ℕ → WritePlan → Decision
-decision_of bytes (write_plan.Refused n) = Refused n
-decision_of bytes (write_plan.Puts p serial) = Puts p (scan_with serial bytes)
-decision_of bytes (write_plan.Erases q serial) = Erases q (scan_with serial bytes)
+abbrev pub decision_of : List ℕ → Result WritePlan ScanRefusal → Decision
+decision_of bytes (Err refusal) = Refused refusal
+decision_of bytes (Ok (write_plan.Puts p serial)) = Puts p (scan_with serial bytes)
+decision_of bytes (Ok (write_plan.Erases q serial)) = Erases q (scan_with serial bytes)
 
 -- The slot lies in the image; serial and length are in range.
 abbrev pub Writes : List ℕ → List ℕ → ℕ → ℕ → Type 0
 Writes m bytes p serial = (p + 16 ≤ length m) × (serial < 268435456) × (length bytes ≤ 48)
 
 abbrev pub Inside : List ℕ → List ℕ → WritePlan → Type 0
-Inside m bytes (write_plan.Refused n) = Unit {0}
 Inside m bytes (write_plan.Puts p serial) = Writes m bytes p serial
 Inside m bytes (write_plan.Erases q serial) = Writes m bytes q serial
 
-pub record Decided (m : List ℕ) (a b : ℕ) (bytes : List ℕ) (r : WritePlan) : Type 0 where
+pub record Decided (m : List ℕ) (a b : ℕ) (bytes : List ℕ) (r : Result WritePlan ScanRefusal) : Type 0 where
   pub is : decision_of bytes r ≡ write m a b bytes
-  pub inside : Inside m bytes r
+  pub inside : IfOk r (Inside m bytes)
 
 -- ---- a take
 
@@ -43,11 +42,11 @@ pub record HandsOut (m : List ℕ) (p : ℕ) (f : Found) (e : Entry) : Type 0 wh
   pub fits : f.count ≤ 48
   pub lies : f.start + f.count ≤ 56
 
-abbrev pub OldestIs : List ℕ → TakePlan → List Entry → Type 0
-OldestIs m take_plan.Nothing [] = Unit {0}
-OldestIs m take_plan.Nothing (e ∷ l) = ⊥
-OldestIs m (take_plan.Takes p f) [] = ⊥
-OldestIs m (take_plan.Takes p f) (e ∷ l) = HandsOut m p f e
+abbrev pub OldestIs : List ℕ → Option TakePlan → List Entry → Type 0
+OldestIs m None [] = Unit {0}
+OldestIs m None (e ∷ l) = ⊥
+OldestIs m (Some t) [] = ⊥
+OldestIs m (Some t) (e ∷ l) = HandsOut m t.place t.found e
 
 -- What is handed out has 48 bytes, '0 where unused'.
 abbrev pub padded : List ℕ → List ℕ

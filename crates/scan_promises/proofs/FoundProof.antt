@@ -4,6 +4,7 @@ use native.Mathlib.Omega.{arith}
 use mathlib.Core.Path.{◌≡◌, refl, sym, ap, subst, ◌∙◌}
 use mathlib.Core.List.{List, [], ◌∷◌, ◌++◌, map}
 use lib.ListN.{length}
+use Rattle.std.specs.Prelude.{Option, Some}
 use Rattle.model.specs.State.{Flash}
 use Rattle.model.specs.declared.Setup.{Setup}
 use Rattle.registers.specs.Layout.{register_count}
@@ -15,7 +16,6 @@ use Rattle.scan_queue.specs.Slots.{Entry, waits, slot_at, places, queue, scans, 
 use Rattle.scan_queue.specs.Cuts.{Program, tail}
 use Rattle.scan_queue.proofs.Order.{head_in}
 use Rattle.scan_pages.specs.Pages.{page_word, lower, higher, pages_answer}
-use Rattle.scans.specs.declared.Made.{Made}
 use Rattle.scans.specs.declared.ToldScan.{ToldScan}
 use Rattle.scans.specs.Jobs.{Job, zero_job, jobs, jobs_in}
 use Rattle.scans.specs.Scans.{no_scan, scan_told, scan_of, mark_told, take_done, waiting, take_in}
@@ -48,9 +48,9 @@ module _ (s : List ℕ) (f : Flash) (a b : ℕ) (size : length s ≡ register_co
         subst (λ (d : ℕ). RunsOn (decode s).setup (zero_job d (e.place + 1)) (Program (e.place + 1) 0 ∷ []) 1 s f) (pages_same s f a b _ refl ok)
         (zero_runs (decode s).setup e.place slot 1 (omega arith) 1 s f (good s f a b size ok))
 
-    left : LeftFlash Made
+    left : LeftFlash (Option ℕ)
     left = record {
-      told = record { left = (driven_in 1 s f job.operation job.words).told.left; cut = 0 };
+      told = Some (driven_in 1 s f job.operation job.words).told.left;
       registers = (driven_in 1 s f job.operation job.words).registers;
       flash = (driven_in 1 s f job.operation job.words).flash;
     }

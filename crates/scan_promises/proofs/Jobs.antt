@@ -9,6 +9,7 @@ use lib.Dec.{ltb}
 use lib.ListN.{length, take}
 use lib.Seq.{take-length}
 use borrow.Author.Tests.{ltb-true, ltb-false}
+use Rattle.std.specs.Prelude.{Option}
 use Rattle.model.specs.State.{Flash}
 use Rattle.model.specs.declared.Setup.{Setup}
 use Rattle.model.proofs.Bool.{which}
@@ -16,7 +17,6 @@ use Rattle.calls.specs.Calls.{LeftFlash}
 use Rattle.driving.specs.Drives.{driven_in}
 use Rattle.scan_queue.specs.Cuts.{Step, run}
 use Rattle.scan_queue.proofs.Words.{run_append}
-use Rattle.scans.specs.declared.Made.{Made}
 use Rattle.scans.specs.Jobs.{Job, jobs_in}
 use Rattle.scans.proofs.Jobs.{cut_job, next_job}
 use Rattle.scan_promises.proofs.Runs.{Good, Runs}
@@ -53,13 +53,13 @@ jobs_run S (j ∷ js) us (more {ss = ss} {ts = ts} r rs) n s f g =
     (λ (e : ltb n (length ss) ≡ true).
     let few : n < length ss = ltb-true n (length ss) e in
     let m : min n (length ss) ≡ n = omega arith in
-    ap (λ (l : LeftFlash Made). l.flash.words) (sym (cut_job n s f j _ refl (one.cut ∙ e) js))
+    ap (λ (l : LeftFlash (Option ℕ)). l.flash.words) (sym (cut_job n s f j _ refl (one.cut ∙ e) js))
     ∙ one.words ∙ rw (m, take_front ss ts n (omega arith)) refl)
     (λ (e : ltb n (length ss) ≡ false).
     let all : length ss ≤ n = ltb-false n (length ss) e in
     let m : min n (length ss) ≡ length ss = omega arith in
     let done : (driven_in n s f j.operation j.words).flash.words ≡ run ss f.words = one.words ∙ rw (m, take-length ss) refl in
-    ap (λ (l : LeftFlash Made). l.flash.words) (sym (next_job n s f j _ refl (one.cut ∙ e) js))
+    ap (λ (l : LeftFlash (Option ℕ)). l.flash.words) (sym (next_job n s f j _ refl (one.cut ∙ e) js))
     ∙ jobs_run S js ts rs _ _ _ (one.again all)
     ∙ rw (one.left, m, done) (sym (ap (λ (l : List Step). run l f.words) (take_past ss ts n all) ∙ run_append ss (take (n - length ss) ts) f.words)))
     (which (ltb n (length ss)))

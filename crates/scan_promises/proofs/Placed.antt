@@ -8,11 +8,13 @@ use mathlib.Core.List.{List, [], ◌∷◌, ◌++◌, append_assoc}
 use lib.Dec.{ltb, leb}
 use lib.ListN.{length, length-append}
 use borrow.Author.Tests.{ltb-true, leb-true}
+use Rattle.std.specs.Prelude.{Option, None, Some}
 use Rattle.model.specs.declared.Setup.{Setup}
 use Rattle.model.proofs.Bool.{and_left, and_right}
+use Rattle.scan_queue.specs.declared.ScanRefusal.TheVariants.{Full, BadScan}
 use Rattle.scan_queue.specs.Payload.{Scan, words_of, written}
 use Rattle.scan_queue.specs.Slots.{waits, slot_at, slots_from, places, Entry, queue, highest}
-use Rattle.scan_queue.specs.Decisions.{Decision, Refused, Puts, Erases, Marks, Room, None, At, first_unused, none_waits, into, new_scan, write, taking, take_oldest}
+use Rattle.scan_queue.specs.Decisions.{Decision, Refused, Puts, Erases, Marks, first_unused, none_waits, into, new_scan, write, taking, take_oldest}
 use Rattle.scan_queue.specs.Cuts.{Program, erases, programs, fills, plan, steps_of}
 use Rattle.scan_queue.proofs.Order.{In, here, there, head_in}
 use Rattle.scan_queue.proofs.Encoding.{Below, Fits, words_length, written_length}
@@ -164,7 +166,7 @@ module _ (S : Setup) (x y : ℕ) (hx : Serves S x) (hy : Serves S y) (m : List �
       let A : ℕ = page_word S.pages x in
       let B : ℕ = page_word S.pages y in
       let t1 : Bool = ltb (suc (highest m (places A B))) 268435456 && leb 1 (length bytes) in
-      cases (Sits S) (t1 && leb (length bytes) 48) (into m A B (new_scan m A B bytes) (first_unused m (places A B))) (Refused 18)
+      cases (Sits S) (t1 && leb (length bytes) 48) (into m A B (new_scan m A B bytes) (first_unused m (places A B))) (Refused BadScan)
       (λ e.
       let e1 : (ltb (suc (highest m (places A B))) 268435456 && leb 1 (length bytes)) ≡ true = and_left t1 (leb (length bytes) 48) e in
       room bytes (record {
@@ -175,18 +177,18 @@ module _ (S : Setup) (x y : ℕ) (hx : Serves S x) (hy : Serves S y) (m : List �
       }) (first_unused m (places A B)) refl)
       (λ e. tt)
     where
-      room : (bytes : List ℕ) → Fits (new_scan m (page_word S.pages x) (page_word S.pages y) bytes) → (r : Room)
+      room : (bytes : List ℕ) → Fits (new_scan m (page_word S.pages x) (page_word S.pages y) bytes) → (r : Option ℕ)
           → first_unused m (places (page_word S.pages x) (page_word S.pages y)) ≡ r
           → Sits S (into m (page_word S.pages x) (page_word S.pages y) (new_scan m (page_word S.pages x) (page_word S.pages y) bytes) r)
-      room bytes fits (At p) e =
+      room bytes fits (Some p) e =
           (slot_of S x y p hx hy (first_unused_lem m (places (page_word S.pages x) (page_word S.pages y)) p e).0, fits)
       room bytes fits None e =
           cases (Sits S) (none_waits m (slots_from 16 (page_word S.pages x)))
           (Erases (page_word S.pages x) (new_scan m (page_word S.pages x) (page_word S.pages y) bytes))
-          (cond (none_waits m (slots_from 16 (page_word S.pages y))) (Erases (page_word S.pages y) (new_scan m (page_word S.pages x) (page_word S.pages y) bytes)) (Refused 17))
+          (cond (none_waits m (slots_from 16 (page_word S.pages y))) (Erases (page_word S.pages y) (new_scan m (page_word S.pages x) (page_word S.pages y) bytes)) (Refused Full))
           (λ h. (record { page = x; serves = hx; is = refl }, slot_of S x y (page_word S.pages x) hx hy low_in, fits))
           (λ h. cases (Sits S) (none_waits m (slots_from 16 (page_word S.pages y)))
-          (Erases (page_word S.pages y) (new_scan m (page_word S.pages x) (page_word S.pages y) bytes)) (Refused 17)
+          (Erases (page_word S.pages y) (new_scan m (page_word S.pages x) (page_word S.pages y) bytes)) (Refused Full)
           (λ k. (record { page = y; serves = hy; is = refl }, slot_of S x y (page_word S.pages y) hx hy high_in, fits)) (λ k. tt))
 
   pub take_sits : Sits S (take_oldest m (page_word S.pages x) (page_word S.pages y))

@@ -3,8 +3,9 @@ use mathlib.Core.Path.{◌≡◌, refl}
 use mathlib.Core.List.{List, [], ◌∷◌, ◌++◌}
 use Prim.Native.Nat.{ℕ, ◌*◌}
 use lib.ListN.{replicate, set}
-use Rattle.numbers.specs.declared.Parsed.TheVariants.{Number, Bad}
+use Rattle.std.proofs.Common.{Ok, Err}
 use Rattle.numbers.specs.Number.{continued, last_group, groups_value, shortest, number_between, number_at, limited, number_to, then_number}
+use Rattle.scan_queue.specs.declared.ScanRefusal.TheVariants.{Full, BadScan, NoScan}
 use Rattle.scan_queue.specs.Payload.{Scan, max_serial, groups, bytes_of, words_of, all, serial_in, length_in, body_of, payload_of, written}
 use Rattle.scan_queue.specs.Slots.{Entry, Unused, Dead, Waiting, Taken, Odd, blank, words_at, slot_at, slots_from, places, entries, insert, sorted, queue, highest}
 use Rattle.scan_queue.specs.Decisions.{Refused, Puts, Erases, first_unused, none_waits, write, take_oldest}
@@ -24,7 +25,7 @@ unfolding words_of written groups
 words_4 = refl
 
 -- 0 in two groups is not the shortest form; five groups are too many.
-forms : (number_to (128 ∷ 0 ∷ []) max_serial 0 ≡ Bad 0) × (number_to (0 ∷ 5 ∷ []) max_serial 0 ≡ Number 0 1) × (number_to (255 ∷ 255 ∷ 255 ∷ 255 ∷ 1 ∷ []) max_serial 0 ≡ Bad 0)
+forms : (number_to (128 ∷ 0 ∷ []) max_serial 0 ≡ Err 0) × (number_to (0 ∷ 5 ∷ []) max_serial 0 ≡ Ok (record { value = 0; next = 1 })) × (number_to (255 ∷ 255 ∷ 255 ∷ 255 ∷ 1 ∷ []) max_serial 0 ≡ Err 0)
 unfolding continued last_group groups_value shortest number_between number_at limited number_to
 forms = (refl, refl, refl)
 
@@ -82,8 +83,8 @@ dead n = replicate (16 * n) 0
 crowded : List ℕ
 crowded = slot blank 1 ++ dead 30 ++ slot blank 2
 
-refused : (write crowded 0 256 (7 ∷ []) ≡ Refused 17) × (write crowded 0 256 [] ≡ Refused 18) × (write crowded 0 256 (replicate 49 7) ≡ Refused 18)
-    × (write (0 ∷ blank ∷ words_of (written (scan max_serial (7 ∷ []))) ++ blanks 31) 0 256 (7 ∷ []) ≡ Refused 18) × (take_oldest (blanks 32) 0 256 ≡ Refused 19)
+refused : (write crowded 0 256 (7 ∷ []) ≡ Refused Full) × (write crowded 0 256 [] ≡ Refused BadScan) × (write crowded 0 256 (replicate 49 7) ≡ Refused BadScan)
+    × (write (0 ∷ blank ∷ words_of (written (scan max_serial (7 ∷ []))) ++ blanks 31) 0 256 (7 ∷ []) ≡ Refused BadScan) × (take_oldest (blanks 32) 0 256 ≡ Refused NoScan)
 unfolding continued last_group groups_value shortest number_between number_at limited number_to then_number bytes_of all serial_in length_in body_of payload_of words_at slot_at groups words_of written slots_from places highest first_unused none_waits write entries sorted queue take_oldest blanks dead crowded
 refused = (refl, refl, refl, refl, refl)
 

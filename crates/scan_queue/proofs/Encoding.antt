@@ -10,13 +10,14 @@ use native.Mathlib.Omega.{arith}
 use lib.Dec.{ltb, leb}
 use lib.ListN.{length, get_or, drop, replicate, length-append, length-replicate, length-drop}
 use lib.Seq.{drop-cons, drop-drop, take-append_seam, drop-append_seam}
+use Rattle.std.specs.Prelude.{Some}
 use Rattle.model.proofs.Bool.{which}
 use borrow.Author.Tests.{lt-ltb, lt-leb, le-leb, leb-false, eq-eqb, ltb-true, ltb-false}
-use Rattle.numbers.specs.declared.Parsed.TheVariants.{Number}
-use Rattle.numbers.specs.Number.{largest, last_group, groups_value, shortest, number_between, number_at, limited, number_to, then_number}
+use Rattle.std.proofs.Common.{Ok}
+use Rattle.numbers.specs.Number.{Parsed, largest, last_group, groups_value, shortest, number_between, number_at, limited, number_to, then_number}
 use Rattle.numbers.proofs.Laws.{last_here, last_on}
 pub use Rattle.scan_queue.specs.Payload.{Below}
-use Rattle.scan_queue.specs.Payload.{Scan, max_serial, max_length, payload_length, groups, bytes_of, words_of, Holds, all, serial_in, length_in, body_of, payload_of, written}
+use Rattle.scan_queue.specs.Payload.{Scan, max_serial, max_length, payload_length, groups, bytes_of, words_of, all, serial_in, length_in, body_of, payload_of, written}
 
 -- ---- a number and its groups
 
@@ -103,9 +104,12 @@ read_groups v s l at h e =
       groups_some 2 (v / 128),
     )
 
+abbrev numeral : ℕ → ℕ → Parsed
+numeral v n = Ok (record { value = v; next = n })
+
 -- A number that was written is read back, with the place after it.
 pub number_groups : (v max : ℕ) (s l : List ℕ) (at : ℕ) → v < 268435456 → v ≤ max → drop at s ≡ groups 4 v ++ l
-    → number_to s max at ≡ Number v (at + length (groups 4 v))
+    → number_to s max at ≡ numeral v (at + length (groups 4 v))
 unfolding number_to limited number_at number_between shortest
 number_groups v max s l at h m e =
     let r = read_groups v s l at h e in
@@ -227,7 +231,7 @@ written_below s h =
     (below_replicate 256 (56 - length (groups 4 s.serial ++ groups 4 (length s.bytes) ++ s.bytes)) 255 (omega arith))
 
 read_back : (s : Scan) (n : ℕ) → Fits s
-    → payload_of (groups 4 s.serial ++ (groups 4 (length s.bytes) ++ (s.bytes ++ replicate n 255))) ≡ Holds s
+    → payload_of (groups 4 s.serial ++ (groups 4 (length s.bytes) ++ (s.bytes ++ replicate n 255))) ≡ Some s
 unfolding payload_of serial_in length_in then_number body_of
 read_back s n h =
     let a : List ℕ = groups 4 s.serial in
@@ -235,9 +239,9 @@ read_back s n h =
     let rest : List ℕ = s.bytes ++ replicate n 255 in
     let k : ℕ = length s.bytes in
     let all_of : List ℕ = a ++ (b ++ rest) in
-    let first : number_to all_of max_serial 0 ≡ Number s.serial (length a) = number_groups s.serial max_serial all_of (b ++ rest) 0 h.low (omega (arith, h.low)) refl ∙ ap (λ (x : ℕ). Number s.serial x) (omega arith) in
+    let first : number_to all_of max_serial 0 ≡ numeral s.serial (length a) = number_groups s.serial max_serial all_of (b ++ rest) 0 h.low (omega (arith, h.low)) refl ∙ ap (λ (x : ℕ). numeral s.serial x) (omega arith) in
     let past : drop (length a) all_of ≡ b ++ rest = drop-append_seam a (b ++ rest) in
-    let second : number_to all_of max_length (length a) ≡ Number k (length a + length b)
+    let second : number_to all_of max_length (length a) ≡ numeral k (length a + length b)
     = number_groups k max_length all_of rest (length a) (omega (arith, h.most)) h.most past in
     let at : drop (length a + length b) all_of ≡ rest = sym (drop-drop (length b) (length a) all_of) ∙ rw (past, drop-append_seam b rest) in
     let end : drop (length a + length b + k) all_of ≡ replicate n 255 = sym (drop-drop k (length a + length b) all_of) ∙ rw (at, drop-append_seam s.bytes (replicate n 255)) in
@@ -245,6 +249,6 @@ read_back s n h =
     let inside : length a + length b + k ≤ length all_of = omega arith in
     rw (first, second, at, end, le-leb 1 k h.some, le-leb _ _ inside, take-append_seam s.bytes (replicate n 255), all_replicate 255 n)
 
-pub payload_written : (s : Scan) → Fits s → payload_of (written s) ≡ Holds s
+pub payload_written : (s : Scan) → Fits s → payload_of (written s) ≡ Some s
 unfolding written
 payload_written s h = simp append_assoc (read_back s (payload_length - length (groups 4 s.serial ++ (groups 4 (length s.bytes) ++ s.bytes))) h)

@@ -9,12 +9,14 @@ use lib.Dec.{ltb, leb, eqb}
 use lib.Bits.{bit_and, and_zero_r}
 use lib.ListN.{length, get_or, take}
 use lib.Seq.{get_or-set_same}
+use Rattle.std.specs.Prelude.{Option, None, Some, is_none}
 use Rattle.model.proofs.Bool.{which, and_left, and_right}
 use borrow.Author.Tests.{eqb-true, eqb-false, ltb-true, ltb-false, leb-true}
-use Rattle.scan_queue.specs.Payload.{Scan, Payload, Malformed, Holds, all, bytes_of, words_of, payload_of, written}
-use Rattle.scan_queue.specs.Slots.{blank, words_at, Slot, Unused, Dead, Waiting, Taken, Odd, sealed_of, slot_at, Wait, Nothing}
-use Rattle.scan_queue.specs.Slots.{This, waits, serial_of, is_unused, slots_from, places, Pages, Entry, sorted, queue, scans, waiting_list, highest}
-use Rattle.scan_queue.specs.Decisions.{Decision, Refused, Erases, Room, None, At, first_unused, is_nothing, none_waits, into, new_scan, write, taking, take_oldest}
+use Rattle.scan_queue.specs.declared.ScanRefusal.TheVariants.{Full, BadScan}
+use Rattle.scan_queue.specs.Payload.{Scan, all, bytes_of, words_of, payload_of, written}
+use Rattle.scan_queue.specs.Slots.{blank, words_at, Slot, Unused, Dead, Waiting, Taken, Odd, sealed_of, slot_at}
+use Rattle.scan_queue.specs.Slots.{waits, serial_of, is_unused, slots_from, places, Pages, Entry, sorted, queue, scans, waiting_list, highest}
+use Rattle.scan_queue.specs.Decisions.{Decision, Refused, Erases, first_unused, none_waits, into, new_scan, write, taking, take_oldest}
 use Rattle.scan_queue.specs.Cuts.{Step, Program, does, run, erases, plan, Plan, NoSteps, Steps, fills, ScanCall, Write, Take, steps_of, after, cut, when_done, tail, list_after}
 use Rattle.scan_queue.proofs.Order.{In, here, there, Spread, none, one, entries_same, one_more, one_less, head_in}
 use Rattle.scan_queue.proofs.Encoding.{Below, Fits, bytes_words, words_below, words_length, written_length, written_below, payload_written}
@@ -143,7 +145,7 @@ module _ (ps m : List ℕ) (s : Scan) (p : ℕ) (sp : Spread ps) (i : In p ps) (
       (programs_words (words_of (written s)) (p + 2) m (words_below (written s) (written_below s fits)) (rw ws_length (omega arith))
       (λ k a b. ones k (omega arith) (let c : k < p + 2 + 14 = rw ws_length at b in omega arith)))
 
-  put_waits : waits (slot_at sealed_in p) ≡ This s
+  put_waits : waits (slot_at sealed_in p) ≡ Some s
   unfolding slot_at
   put_waits =
       rw (seal_is, mark_is, words_are, bytes_words (written s) (rw (written_length s fits) refl) (written_below s fits), payload_written s fits)
@@ -155,7 +157,7 @@ module _ (ps m : List ℕ) (s : Scan) (p : ℕ) (sp : Spread ps) (i : In p ps) (
       (⊎_elim (λ (x : p + 16 ≤ q). inl (omega arith)) (λ (x : q + 16 ≤ p). inr (omega arith)) (spread_apart p q sp i j ne)))
       ∙ still_all ps m (fills s p) put_still q j
 
-  put_adds : ((q : ℕ) → In q ps → (t : Scan) → waits (slot_at m q) ≡ This t → t.serial < s.serial)
+  put_adds : ((q : ℕ) → In q ps → (t : Scan) → waits (slot_at m q) ≡ Some t → t.serial < s.serial)
       → waiting_list (does (Program p 0) (run (fills s p) m)) ps ≡ waiting_list m ps ++ (s ∷ [])
   unfolding waiting_list queue sealed_in scans
   put_adds low =
@@ -176,9 +178,9 @@ all_words (suc n) m p h k a b =
     rw at (eqb-true (get_or m p 0) blank (and_left (eqb (get_or m p 0) blank) (all blank (words_at n m (suc p))) h)))
     (which (ltb p k))
 
-sealed_used : (mark : ℕ) (w : Payload) → is_unused (sealed_of mark w) ≡ false
-sealed_used mark Malformed = refl
-sealed_used mark (Holds s) =
+sealed_used : (mark : ℕ) (w : Option Scan) → is_unused (sealed_of mark w) ≡ false
+sealed_used mark None = refl
+sealed_used mark (Some s) =
     ⊎_elim (λ (e : eqb mark blank ≡ true). rw e refl)
     (λ (e : eqb mark blank ≡ false). rw e (⊎_elim (λ f. rw f refl) (λ f. rw f refl) (which (eqb mark 0)))) (which (eqb mark blank))
 
@@ -188,7 +190,7 @@ unfolding slot_at
 unused_blank m p h =
     ⊎_elim
     (λ (e : eqb (get_or m p 0) 0 ≡ true).
-    let w : Payload = payload_of (bytes_of (words_at 14 m (p + 2))) in
+    let w : Option Scan = payload_of (bytes_of (words_at 14 m (p + 2))) in
     let u : is_unused (sealed_of (get_or m (p + 1) 0) w) ≡ true = rw e at h in
     absurd (true≢false (sym u ∙ sealed_used (get_or m (p + 1) 0) w)))
     (λ (e : eqb (get_or m p 0) 0 ≡ false).
@@ -198,13 +200,13 @@ unused_blank m p h =
     (which (all blank (words_at 16 m p))))
     (which (eqb (get_or m p 0) 0))
 
-pub first_unused_lem : (m ps : List ℕ) (p : ℕ) → first_unused m ps ≡ At p → In p ps × (is_unused (slot_at m p) ≡ true)
+pub first_unused_lem : (m ps : List ℕ) (p : ℕ) → first_unused m ps ≡ Some p → In p ps × (is_unused (slot_at m p) ≡ true)
 unfolding first_unused
-first_unused_lem m [] p h = let z : None ≡ At p = h in let y : ◌≡◌ {A = ℕ} 0 1 = cc in absurd (omega arith)
+first_unused_lem m [] p h = let z : None ≡ Some p = h in let y : ◌≡◌ {A = ℕ} 0 1 = cc in absurd (omega arith)
 first_unused_lem m (q ∷ ps) p h =
     ⊎_elim
     (λ (e : is_unused (slot_at m q) ≡ true).
-    let z : At q ≡ At p = rw e at h in
+    let z : Some q ≡ Some p = rw e at h in
     let y : p ≡ q = cc in
     (rw y here, rw y e))
     (λ (e : is_unused (slot_at m q) ≡ false).
@@ -212,16 +214,16 @@ first_unused_lem m (q ∷ ps) p h =
     (there r.0, r.1))
     (which (is_unused (slot_at m q)))
 
-nothing_is : (w : Wait) → is_nothing w ≡ true → w ≡ Nothing
-nothing_is Nothing h = refl
-nothing_is (This s) h = absurd (true≢false (sym h))
+nothing_is : (w : Option Scan) → is_none w ≡ true → w ≡ None
+nothing_is None h = refl
+nothing_is (Some s) h = absurd (true≢false (sym h))
 
-none_waits_lem : (m : List ℕ) (p : ℕ) {ps : List ℕ} → In p ps → none_waits m ps ≡ true → waits (slot_at m p) ≡ Nothing
+none_waits_lem : (m : List ℕ) (p : ℕ) {ps : List ℕ} → In p ps → none_waits m ps ≡ true → waits (slot_at m p) ≡ None
 unfolding none_waits
-none_waits_lem m p (here {ps = ps}) h = nothing_is (waits (slot_at m p)) (and_left (is_nothing (waits (slot_at m p))) (none_waits m ps) h)
-none_waits_lem m p (there {q = q} {ps = ps} i) h = none_waits_lem m p i (and_right (is_nothing (waits (slot_at m q))) (none_waits m ps) h)
+none_waits_lem m p (here {ps = ps}) h = nothing_is (waits (slot_at m p)) (and_left (is_none (waits (slot_at m p))) (none_waits m ps) h)
+none_waits_lem m p (there {q = q} {ps = ps} i) h = none_waits_lem m p i (and_right (is_none (waits (slot_at m q))) (none_waits m ps) h)
 
-waiting_serial : (x : Slot) (t : Scan) → waits x ≡ This t → t.serial ≡ serial_of x
+waiting_serial : (x : Slot) (t : Scan) → waits x ≡ Some t → t.serial ≡ serial_of x
 waiting_serial Unused t h = let y : ◌≡◌ {A = ℕ} 0 1 = cc in absurd (omega arith)
 waiting_serial Dead t h = let y : ◌≡◌ {A = ℕ} 0 1 = cc in absurd (omega arith)
 waiting_serial (Waiting s) t h = let y : t ≡ s = cc in ap (λ (x : Scan). x.serial) y
@@ -233,7 +235,7 @@ unfolding highest
 highest_le m p here = omega arith
 highest_le m p (there i) = omega (arith, highest_le m p i)
 
-new_above : (m ps : List ℕ) (q : ℕ) → In q ps → (t : Scan) → waits (slot_at m q) ≡ This t → t.serial < suc (highest m ps)
+new_above : (m ps : List ℕ) (q : ℕ) → In q ps → (t : Scan) → waits (slot_at m q) ≡ Some t → t.serial < suc (highest m ps)
 new_above m ps q i t h = omega (arith, waiting_serial (slot_at m q) t h, highest_le m q i)
 
 -- ---- a call: all but its last step change nothing that waits
@@ -243,8 +245,8 @@ pub record Quiet (m ps : List ℕ) (ss : List Step) (s : Step) (list : List Scan
   pub done : waiting_list (does s (run ss m)) ps ≡ list
 
 module _ (m : List ℕ) (a b : ℕ) (g : Pages m a b) (s : Scan) (fits : Fits s)
-    (above_all : (q : ℕ) → In q (places a b) → (t : Scan) → waits (slot_at m q) ≡ This t → t.serial < s.serial) where
-  quiet_put : (p : ℕ) → first_unused m (places a b) ≡ At p
+    (above_all : (q : ℕ) → In q (places a b) → (t : Scan) → waits (slot_at m q) ≡ Some t → t.serial < s.serial) where
+  quiet_put : (p : ℕ) → first_unused m (places a b) ≡ Some p
       → Quiet m (places a b) (fills s p) (Program p 0) (waiting_list m (places a b) ++ (s ∷ []))
   quiet_put p h =
       let sp : Spread (places a b) = spread_places m a b g in
@@ -317,7 +319,7 @@ write_shown m a b bytes g are =
     let list : List Scan = waiting_list m (places a b) ++ (new_scan m a b bytes ∷ []) in
     let serial : ℕ = suc (highest m (places a b)) in
     let t1 : Bool = ltb serial 268435456 && leb 1 (length bytes) in
-    cases (λ (d : Decision). Shown m (places a b) list (plan d)) (t1 && leb (length bytes) 48) (into m a b (new_scan m a b bytes) (first_unused m (places a b))) (Refused 18)
+    cases (λ (d : Decision). Shown m (places a b) list (plan d)) (t1 && leb (length bytes) 48) (into m a b (new_scan m a b bytes) (first_unused m (places a b))) (Refused BadScan)
     (λ e.
     let e1 : (ltb serial 268435456 && leb 1 (length bytes)) ≡ true = and_left t1 (leb (length bytes) 48) e in
     let fits : Fits (new_scan m a b bytes) = record {
@@ -329,15 +331,15 @@ write_shown m a b bytes g are =
     room fits (first_unused m (places a b)) refl)
     (λ e. tt)
   where
-    room : Fits (new_scan m a b bytes) → (r : Room) → first_unused m (places a b) ≡ r
+    room : Fits (new_scan m a b bytes) → (r : Option ℕ) → first_unused m (places a b) ≡ r
         → Shown m (places a b) (waiting_list m (places a b) ++ (new_scan m a b bytes ∷ [])) (plan (into m a b (new_scan m a b bytes) r))
-    room fits (At p) e = quiet_put m a b g (new_scan m a b bytes) fits (new_above m (places a b)) p e
+    room fits (Some p) e = quiet_put m a b g (new_scan m a b bytes) fits (new_above m (places a b)) p e
     room fits None e =
         cases (λ (d : Decision). Shown m (places a b) (waiting_list m (places a b) ++ (new_scan m a b bytes ∷ [])) (plan d)) (none_waits m (slots_from 16 a))
-        (Erases a (new_scan m a b bytes)) (cond (none_waits m (slots_from 16 b)) (Erases b (new_scan m a b bytes)) (Refused 17))
+        (Erases a (new_scan m a b bytes)) (cond (none_waits m (slots_from 16 b)) (Erases b (new_scan m a b bytes)) (Refused Full))
         (λ h. quiet_lower m a b g (new_scan m a b bytes) fits (new_above m (places a b)) h)
         (λ h. cases (λ (d : Decision). Shown m (places a b) (waiting_list m (places a b) ++ (new_scan m a b bytes ∷ [])) (plan d)) (none_waits m (slots_from 16 b))
-        (Erases b (new_scan m a b bytes)) (Refused 17)
+        (Erases b (new_scan m a b bytes)) (Refused Full)
         (λ k. quiet_higher m a b g (new_scan m a b bytes) fits (new_above m (places a b)) k) (λ k. tt))
 
 -- ---- a take

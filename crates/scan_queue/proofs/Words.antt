@@ -10,10 +10,11 @@ use lib.Dec.{ltb, eqb}
 use lib.Bits.{bit_and, and_comm, and_mask}
 use lib.ListN.{length, get_or, take, length-set}
 use lib.Seq.{get_or-set_same, get_or-set_other}
+use Rattle.std.specs.Prelude.{Option, None, Some}
 use Rattle.model.proofs.Bool.{which}
 use borrow.Author.Tests.{ne_eqb, eqb-false, ltb-true, ltb-false}
-use Rattle.scan_queue.specs.Payload.{Payload, Malformed, Holds, all, bytes_of, payload_of}
-use Rattle.scan_queue.specs.Slots.{blank, words_at, sealed_of, slot_at, Nothing, waits}
+use Rattle.scan_queue.specs.Payload.{Scan, all, bytes_of, payload_of}
+use Rattle.scan_queue.specs.Slots.{blank, words_at, sealed_of, slot_at, waits}
 use Rattle.scan_queue.specs.Cuts.{Step, Erase, Program, does, run, erases, programs}
 use Rattle.scan_queue.proofs.Order.{In}
 use Rattle.scan_queue.proofs.Encoding.{Below}
@@ -37,20 +38,20 @@ slot_same m l p h =
     )
 
 -- A seal that is not 0: nothing waits.
-pub unsealed : (m : List ℕ) (p : ℕ) → get_or m p 0 ≢ 0 → waits (slot_at m p) ≡ Nothing
+pub unsealed : (m : List ℕ) (p : ℕ) → get_or m p 0 ≢ 0 → waits (slot_at m p) ≡ None
 unfolding slot_at
 unsealed m p h =
     rw (ne_eqb (get_or m p 0) 0 h) (⊎_elim (λ e. rw e) (λ e. rw e) (which (all blank (words_at 16 m p))))
 
-pub seal_blank : (m : List ℕ) (p : ℕ) → get_or m p 0 ≡ blank → waits (slot_at m p) ≡ Nothing
+pub seal_blank : (m : List ℕ) (p : ℕ) → get_or m p 0 ≡ blank → waits (slot_at m p) ≡ None
 seal_blank m p h = unsealed m p (λ e. omega arith)
 
-marked_payload : (w : Payload) → waits (sealed_of 0 w) ≡ Nothing
-marked_payload Malformed = refl
-marked_payload (Holds s) = refl
+marked_payload : (w : Option Scan) → waits (sealed_of 0 w) ≡ None
+marked_payload None = refl
+marked_payload (Some s) = refl
 
 -- A mark of 0: nothing waits.
-pub marked : (m : List ℕ) (p : ℕ) → get_or m (p + 1) 0 ≡ 0 → waits (slot_at m p) ≡ Nothing
+pub marked : (m : List ℕ) (p : ℕ) → get_or m (p + 1) 0 ≡ 0 → waits (slot_at m p) ≡ None
 unfolding slot_at
 marked m p h =
     ⊎_elim (λ (e : eqb (get_or m p 0) 0 ≡ true). rw (e, h) (marked_payload (payload_of (bytes_of (words_at 14 m (p + 2)))))) (λ e. unsealed m p (eqb-false (get_or m p 0) 0 e))
@@ -163,7 +164,7 @@ programs_words (w ∷ ws) q m h l b =
 
 -- The slot's seal is still to be erased, and nothing waits in it.
 abbrev pub Ahead : ℕ → ℕ → List ℕ → ℕ → Type 0
-Ahead q n m p = Calm q n m p ⊎ ((q ≤ p) × (waits (slot_at m p) ≡ Nothing))
+Ahead q n m p = Calm q n m p ⊎ ((q ≤ p) × (waits (slot_at m p) ≡ None))
 
 erase_step : (q n : ℕ) (m : List ℕ) (p : ℕ) → q < length m → Ahead q (suc n) m p
     → (waits (slot_at (does (Erase q) m) p) ≡ waits (slot_at m p)) × Ahead (suc q) n (does (Erase q) m) p

@@ -1,9 +1,8 @@
 -- Words 2 to 15 of a slot: 'a serial below 2^28 and a length, both as seven-bit groups as in L4, then 1 to 48 bytes, the rest
 -- ones, lowest byte of a word first'. (02, L11)
-use Rattle.std.specs.Prelude.{ℕ, zero, suc, ◌+◌, ◌*◌, ◌-◌, ◌/◌, ◌%◌, ◌<◌, Bool, true, cond, ◌&&◌, List, [], ◌∷◌, ◌++◌, ltb, leb, eqb, length, take, drop, replicate}
-use Rattle.numbers.specs.declared.Parsed.{Parsed}
-use Rattle.numbers.specs.declared.Parsed.TheVariants.{Number, Bad}
-use Rattle.numbers.specs.Number.{number_to, then_number, value_of}
+use Rattle.std.specs.Prelude.{ℕ, zero, suc, ◌+◌, ◌*◌, ◌-◌, ◌/◌, ◌%◌, ◌<◌, Bool, cond, ◌&&◌, List, [], ◌∷◌, ◌++◌, ltb, leb, eqb, length, take, drop, replicate, Option, None, Some, Ok, Err}
+use Rattle.std.specs.List.{list_all}
+use Rattle.numbers.specs.Number.{Parsed, number_to, then_number, value_of}
 
 -- A scan: its serial, and its bytes, which are as many as its length says.
 pub record Scan : Type 0 where
@@ -39,16 +38,11 @@ words_of (a ∷ b ∷ []) = []
 words_of (a ∷ b ∷ c ∷ []) = []
 words_of (a ∷ b ∷ c ∷ d ∷ l) = (a + 256 * b + 65536 * c + 16777216 * d) ∷ words_of l
 
--- ---- what bytes hold
-
-pub data Payload : Type 0 where
-  Malformed : Payload
-  Holds : Scan → Payload
+-- ---- what bytes hold: a scan, or `None` where they are malformed
 
 -- Every number of a list is x.
 unfoldable pub all : ℕ → List ℕ → Bool
-all x [] = true
-all x (b ∷ l) = eqb b x && all x l
+all x l = list_all (λ b. eqb b x) l
 
 -- 'A serial below 2^28 and a length, both as seven-bit groups as in L4': so in shortest form.
 unfoldable pub serial_in : List ℕ → Parsed
@@ -58,14 +52,14 @@ unfoldable pub length_in : List ℕ → Parsed
 length_in l = then_number l max_length (serial_in l)
 
 -- 'Then 1 to 48 bytes, the rest ones', to the end of word 15.
-unfoldable pub body_of : List ℕ → ℕ → Parsed → Payload
-body_of l serial (Number n at) =
-    cond (leb 1 n && (leb (at + n) (length l) && all 255 (drop (at + n) l)))
-    (Holds (record { serial = serial; bytes = take n (drop at l) }))
-    Malformed
-body_of l serial (Bad p) = Malformed
+unfoldable pub body_of : List ℕ → ℕ → Parsed → Option Scan
+body_of l serial (Ok n) =
+    cond (leb 1 n.value && (leb (n.next + n.value) (length l) && all 255 (drop (n.next + n.value) l)))
+    (Some (record { serial = serial; bytes = take n.value (drop n.next l) }))
+    None
+body_of l serial (Err p) = None
 
-unfoldable pub payload_of : List ℕ → Payload
+unfoldable pub payload_of : List ℕ → Option Scan
 payload_of l = body_of l (value_of (serial_in l)) (length_in l)
 
 -- ---- what a write puts there

@@ -1,6 +1,6 @@
 -- The slots of two pages, what each of them is, and the list of the scans that wait. (02, L11)
-use Rattle.std.specs.Prelude.{Bool, true, false, cond, List, [], ◌∷◌, ◌++◌, ℕ, zero, suc, ◌+◌, ◌≤◌, max, leb, eqb, length, get_or}
-use Rattle.scan_queue.specs.Payload.{Scan, Payload, Malformed, Holds, all, bytes_of, payload_of}
+use Rattle.std.specs.Prelude.{Bool, true, false, cond, List, [], ◌∷◌, ◌++◌, ℕ, zero, suc, ◌+◌, ◌≤◌, max, leb, eqb, length, get_or, Option, None, Some}
+use Rattle.scan_queue.specs.Payload.{Scan, all, bytes_of, payload_of}
 
 -- A word of ones.
 abbrev pub blank : ℕ
@@ -22,9 +22,9 @@ pub data Slot : Type 0 where
   Odd : Scan → Slot
 
 -- 'Waiting if word 1 is all ones, taken if it is 0'.
-abbrev pub sealed_of : ℕ → Payload → Slot
-sealed_of mark Malformed = Dead
-sealed_of mark (Holds s) = cond (eqb mark blank) (Waiting s) (cond (eqb mark 0) (Taken s) (Odd s))
+abbrev pub sealed_of : ℕ → Option Scan → Slot
+sealed_of mark None = Dead
+sealed_of mark (Some s) = cond (eqb mark blank) (Waiting s) (cond (eqb mark 0) (Taken s) (Odd s))
 
 -- 'Sealed if word 0 is 0 and words 2 to 15 are well formed .. A wholly blank slot is unused, any other dead.' The slot starts at
 -- word p.
@@ -34,16 +34,12 @@ slot_at m p =
     (cond (all blank (words_at 16 m p)) Unused Dead)
 
 -- What waits in a slot.
-pub data Wait : Type 0 where
-  Nothing : Wait
-  This : Scan → Wait
-
-abbrev pub waits : Slot → Wait
-waits Unused = Nothing
-waits Dead = Nothing
-waits (Waiting s) = This s
-waits (Taken s) = Nothing
-waits (Odd s) = Nothing
+abbrev pub waits : Slot → Option Scan
+waits Unused = None
+waits Dead = None
+waits (Waiting s) = Some s
+waits (Taken s) = None
+waits (Odd s) = None
 
 -- The serial of a sealed slot; 0 of any other.
 abbrev pub serial_of : Slot → ℕ
@@ -82,12 +78,12 @@ pub record Entry : Type 0 where
   pub place : ℕ
   pub scan : Scan
 
-abbrev pub cons : ℕ → Wait → List Entry → List Entry
-cons p Nothing l = l
-cons p (This s) l = record { place = p; scan = s } ∷ l
+abbrev pub cons : ℕ → Option Scan → List Entry → List Entry
+cons p None l = l
+cons p (Some s) l = record { place = p; scan = s } ∷ l
 
 -- What waits at some places, in their order.
-unfoldable pub entries : (ℕ → Wait) → List ℕ → List Entry
+unfoldable pub entries : (ℕ → Option Scan) → List ℕ → List Entry
 entries f [] = []
 entries f (p ∷ ps) = cons p (f p) (entries f ps)
 

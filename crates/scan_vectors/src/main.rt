@@ -2,8 +2,10 @@
 // different banks. Scans are 7, 8, 9 and so on, as many bytes as a line says.
 #![tactic(auto)]
 
+use model::ERASED;
 use registers::Registers;
-use std::io;
+use scans::{ToldScan, ToldWrite};
+use std::{fmt, io};
 
 const PAGES: u32 = 10;
 
@@ -24,117 +26,146 @@ const SCAN: [u8; 49] = [
     55,
 ];
 
-// ---- what the lines are made of
+// ---- what the calls tell
 
-fn text(rt: &impl Print, words: &[u8]) -> io::Result<()> {
-    rt.write_all(words)
+#[derive(Clone, Copy)]
+struct Written {
+    answer: u32,
+    cut: u32,
 }
 
-fn number(rt: &impl Print, label: &[u8], n: u64) -> io::Result<()> {
-    text(rt, label)?;
-    print!(rt; "{n}")
+impl From<ToldWrite> for Written {
+    fn from(told: ToldWrite) -> Self {
+        Written {
+            answer: told.answer,
+            cut: told.cut,
+        }
+    }
 }
 
-fn word(image: &[u32], at: usize) -> u32 {
-    if at < image.len() { image[at] } else { 0 }
+impl fmt::Display for Written {
+    fn fmt<W: fmt::Write>(&self, f: &mut fmt::Formatter<W>) -> fmt::Result {
+        write!(f, "{}, cut {}", self.answer, self.cut)
+    }
 }
 
-fn hex(rt: &impl Print, label: &[u8], n: u32) -> io::Result<()> {
-    text(rt, label)?;
-    print!(rt; "{n:08x}")
+#[derive(Clone, Copy)]
+struct Taken {
+    answer: u32,
+    serial: u32,
+    length: u32,
+}
+
+impl From<ToldScan> for Taken {
+    fn from(told: ToldScan) -> Self {
+        Taken {
+            answer: told.answer,
+            serial: told.serial,
+            length: told.length,
+        }
+    }
+}
+
+impl fmt::Display for Taken {
+    fn fmt<W: fmt::Write>(&self, f: &mut fmt::Formatter<W>) -> fmt::Result {
+        write!(
+            f,
+            "{}, serial {}, length {}",
+            self.answer, self.serial, self.length
+        )
+    }
 }
 
 // ---- the calls
 
-fn power_on(rt: &impl Print, s: &mut Registers, image: &[u32]) -> io::Result<()> {
-    lifecycle::reset(s, PAGES);
-    settings::set_default(s, ALL_RIGHTS);
-    let r = lifecycle::initialise(s, image);
-    number(
-        rt,
-        b"reset, all rights by default, initialise: ",
-        r.answer as u64,
-    )?;
-    text(rt, b"\n")
+#[derive(Clone, Copy)]
+struct Flash {
+    registers: Registers,
+    image: [u32; WORDS],
 }
 
-fn write(
-    rt: &impl Print,
-    s: &mut Registers,
-    image: &mut [u32],
-    a: u32,
-    b: u32,
-    bytes: &[u8],
-    steps: u32,
-) -> io::Result<()> {
-    let r = scans::write(s, image, a, b, bytes, steps);
-    number(rt, b"write, length ", bytes.len() as u64)?;
-    number(rt, b", to ", a as u64)?;
-    number(rt, b" and ", b as u64)?;
-    number(rt, b": ", r.answer as u64)?;
-    number(rt, b", cut ", r.cut as u64)?;
-    text(rt, b"\n")
-}
+impl Flash {
+    fn filled(word: u32) -> Self {
+        Flash {
+            registers: [0; registers::COUNT],
+            image: [word; WORDS],
+        }
+    }
 
-fn take(rt: &impl Print, s: &mut Registers, image: &mut [u32]) -> io::Result<()> {
-    let r = scans::take(s, image, 2, 19, ALL_STEPS);
-    number(rt, b"take from 2 and 19: ", r.answer as u64)?;
-    number(rt, b", serial ", r.serial as u64)?;
-    number(rt, b", length ", r.length as u64)?;
-    text(rt, b"\n")
-}
+    fn power_on(&mut self, rt: &impl Print) -> io::Result<()> {
+        let _ = lifecycle::reset(&mut self.registers, PAGES);
+        let _ = settings::set_default(&mut self.registers, ALL_RIGHTS);
+        let initialised = lifecycle::initialise(&mut self.registers, &self.image);
+        let answer = refusals::number_of(initialised.map(|_| ()));
+        println!(rt; "reset, all rights by default, initialise: {answer}")
+    }
 
-fn first_slot(rt: &impl Print, image: &[u32]) -> io::Result<()> {
-    hex(
-        rt,
-        b"words 0 to 3 of slot 0 of page 2: 0x",
-        word(image, FIRST_SLOT),
-    )?;
-    hex(rt, b" 0x", word(image, FIRST_SLOT + 1))?;
-    hex(rt, b" 0x", word(image, FIRST_SLOT + 2))?;
-    hex(rt, b" 0x", word(image, FIRST_SLOT + 3))?;
-    text(rt, b"\n")
-}
+    fn write(
+        &mut self,
+        rt: &impl Print,
+        a: u32,
+        b: u32,
+        bytes: &[u8],
+        steps: u32,
+    ) -> io::Result<()> {
+        let s = &mut self.registers;
+        let written = Written::from(scans::write(s, &mut self.image, a, b, bytes, steps));
+        let length = bytes.len();
+        println!(rt; "write, length {length}, to {a} and {b}: {written}")
+    }
 
-// ---- the cases
+    fn take(&mut self, rt: &impl Print) -> io::Result<()> {
+        let s = &mut self.registers;
+        let taken = Taken::from(scans::take(s, &mut self.image, 2, 19, ALL_STEPS));
+        println!(rt; "take from 2 and 19: {taken}")
+    }
 
-// 19, 18 and 16, which comes before 18.
-fn refusals(rt: &impl Print, s: &mut Registers, image: &mut [u32]) -> io::Result<()> {
-    take(rt, s, image)?;
-    write(rt, s, image, 2, 19, &SCAN[0..0], ALL_STEPS)?;
-    write(rt, s, image, 2, 19, &SCAN, ALL_STEPS)?;
-    write(rt, s, image, 2, 2, &SCAN[0..0], ALL_STEPS)?;
-    write(rt, s, image, 2, 20, &SCAN[0..3], ALL_STEPS)
-}
+    fn first_slot(&self, rt: &impl Print) -> io::Result<()> {
+        print!(rt; "words 0 to 3 of slot 0 of page 2:")?;
+        for word in &self.image[FIRST_SLOT..FIRST_SLOT + 4] {
+            print!(rt; " 0x{word:08x}")?;
+        }
+        println!(rt; "")
+    }
 
-// A scan, and another one whose power goes before the seal. The next call is 4, before 16, until a reset.
-fn before_the_seal(rt: &impl Print, s: &mut Registers, image: &mut [u32]) -> io::Result<()> {
-    write(rt, s, image, 19, 2, &SCAN[0..3], ALL_STEPS)?;
-    first_slot(rt, image)?;
-    write(rt, s, image, 2, 19, &SCAN[0..1], 14)?;
-    write(rt, s, image, 2, 20, &SCAN[0..3], ALL_STEPS)?;
-    power_on(rt, s, image)?;
-    take(rt, s, image)?;
-    take(rt, s, image)
-}
+    // ---- the cases
 
-// Dead slots alone: the lower page is erased, and the power goes in the erase.
-fn in_the_erase(rt: &impl Print, s: &mut Registers, image: &mut [u32]) -> io::Result<()> {
-    power_on(rt, s, image)?;
-    write(rt, s, image, 2, 19, &SCAN[0..1], 200)?;
-    power_on(rt, s, image)?;
-    take(rt, s, image)?;
-    write(rt, s, image, 2, 19, &SCAN[0..1], ALL_STEPS)?;
-    first_slot(rt, image)?;
-    take(rt, s, image)
+    // 19, 18 and 16, which comes before 18.
+    fn refusals(&mut self, rt: &impl Print) -> io::Result<()> {
+        self.take(rt)?;
+        self.write(rt, 2, 19, &SCAN[..0], ALL_STEPS)?;
+        self.write(rt, 2, 19, &SCAN, ALL_STEPS)?;
+        self.write(rt, 2, 2, &SCAN[..0], ALL_STEPS)?;
+        self.write(rt, 2, 20, &SCAN[..3], ALL_STEPS)
+    }
+
+    // A scan, and another one whose power goes before the seal. The next call is 4, before 16, until a reset.
+    fn before_the_seal(&mut self, rt: &impl Print) -> io::Result<()> {
+        self.write(rt, 19, 2, &SCAN[..3], ALL_STEPS)?;
+        self.first_slot(rt)?;
+        self.write(rt, 2, 19, &SCAN[..1], 14)?;
+        self.write(rt, 2, 20, &SCAN[..3], ALL_STEPS)?;
+        self.power_on(rt)?;
+        self.take(rt)?;
+        self.take(rt)
+    }
+
+    // Dead slots alone: the lower page is erased, and the power goes in the erase.
+    fn in_the_erase(&mut self, rt: &impl Print) -> io::Result<()> {
+        self.power_on(rt)?;
+        self.write(rt, 2, 19, &SCAN[..1], 200)?;
+        self.power_on(rt)?;
+        self.take(rt)?;
+        self.write(rt, 2, 19, &SCAN[..1], ALL_STEPS)?;
+        self.first_slot(rt)?;
+        self.take(rt)
+    }
 }
 
 fn main(rt: HostRuntime) -> io::Result<()> {
-    let mut s = [0u32; registers::COUNT];
-    let mut image = [0xFFFF_FFFFu32; WORDS];
-    power_on(&rt, &mut s, &image)?;
-    refusals(&rt, &mut s, &mut image)?;
-    before_the_seal(&rt, &mut s, &mut image)?;
-    let mut dead = [0u32; WORDS];
-    in_the_erase(&rt, &mut s, &mut dead)
+    let mut flash = Flash::filled(ERASED);
+    flash.power_on(&rt)?;
+    flash.refusals(&rt)?;
+    flash.before_the_seal(&rt)?;
+    Flash::filled(0).in_the_erase(&rt)
 }

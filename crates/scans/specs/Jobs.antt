@@ -1,5 +1,5 @@
 -- What a scan call asks of the controller: whole operations, by their calls, for as many steps as there are. (02, L11)
-use Rattle.std.specs.Prelude.{ℕ, ◌+◌, cond, List, [], ◌∷◌}
+use Rattle.std.specs.Prelude.{ℕ, ◌+◌, cond, List, [], ◌∷◌, Option, None, Some}
 use Rattle.model.specs.State.{Flash}
 use Rattle.model.specs.declared.Operation.{Operation}
 use Rattle.registers.specs.Registers.{is_on}
@@ -9,7 +9,6 @@ use Rattle.driving.specs.Drives.{driven_in}
 use Rattle.scan_queue.specs.Payload.{Scan, words_of, written}
 use Rattle.scan_queue.specs.Decisions.{Decision, Refused, Puts, Erases, Marks}
 use Rattle.scan_pages.specs.Pages.{word_address}
-use Rattle.scans.specs.declared.Made.{Made}
 
 -- A whole operation, with the words that it is lent.
 pub record Job : Type 0 where
@@ -43,19 +42,17 @@ jobs d (Puts p s) = fill_job d p s ∷ zero_job d p ∷ []
 jobs d (Erases q s) = erase_job d q ∷ fill_job d q s ∷ zero_job d q ∷ []
 jobs d (Marks p) = zero_job d (p + 1) ∷ []
 
--- One after the other, each with the steps that those before left. Where the power is cut no other begins.
-abbrev pub made : LeftBuffer Driven → LeftFlash Made
-made l = record {
-  told = record { left = l.told.left; cut = l.told.cut };
-  registers = l.registers;
-  flash = l.flash;
-}
+-- The power was cut in it: no steps are left to tell.
+abbrev pub stopped : LeftBuffer Driven → LeftFlash (Option ℕ)
+stopped l = record { told = None; registers = l.registers; flash = l.flash }
 
-unfoldable pub jobs_in : ℕ → List ℕ → Flash → List Job → LeftFlash Made
-jobs_in steps s f [] = record { told = record { left = steps; cut = 0 }; registers = s; flash = f }
+-- One after the other, each with the steps that those before left. Where the power is cut no other begins. The steps that are left
+-- in the end, `None` where it was cut.
+unfoldable pub jobs_in : ℕ → List ℕ → Flash → List Job → LeftFlash (Option ℕ)
+jobs_in steps s f [] = record { told = Some steps; registers = s; flash = f }
 jobs_in steps s f (j ∷ js) =
     cond (is_on (driven_in steps s f j.operation j.words).told.cut)
-    (made (driven_in steps s f j.operation j.words))
+    (stopped (driven_in steps s f j.operation j.words))
     (jobs_in (driven_in steps s f j.operation j.words).told.left
     (driven_in steps s f j.operation j.words).registers
     (driven_in steps s f j.operation j.words).flash js)

@@ -1,22 +1,32 @@
 -- The two calls on registers: what each tells and leaves. (02, L11)
-use Rattle.std.specs.Prelude.{ℕ, cond, List, [], ◌∷◌, eqb, length}
+use Rattle.std.specs.Prelude.{ℕ, cond, List, [], ◌∷◌, eqb, length, Option, None, Some, Result, Ok, Err}
 use Rattle.model.specs.State.{Flash}
-use Rattle.registers.specs.Registers.{is_on, setup_of, decode}
+use Rattle.registers.specs.Registers.{setup_of, decode}
 use Rattle.calls.specs.Calls.{LeftFlash}
 use Rattle.scan_queue.specs.Slots.{Entry, places, queue}
-use Rattle.scan_queue.specs.Decisions.{Decision, refusal_of, write, taking}
+use Rattle.scan_queue.specs.declared.ScanRefusal.{ScanRefusal}
+use Rattle.scan_queue.specs.Decisions.{Decision, refusal_number, refusal_of, write, taking}
 use Rattle.scan_plans.specs.Plans.{padded}
 use Rattle.scan_pages.specs.Pages.{page_word, lower, higher, pages_answer}
 use Rattle.scans.specs.Jobs.{jobs, jobs_in}
-use Rattle.scans.specs.declared.Made.{Made}
 use Rattle.scans.specs.declared.ToldWrite.{ToldWrite}
 use Rattle.scans.specs.declared.ToldScan.{ToldScan}
 
 -- ---- a write
 
-abbrev pub write_told : ℕ → LeftFlash Made → LeftFlash ToldWrite
+-- 1 if the power was cut, else 0.
+abbrev pub cut_of : Option ℕ → ℕ
+cut_of None = 1
+cut_of (Some left) = 0
+
+-- By what a write came to: the refusal, or what its operations left.
+abbrev pub told_write : Result (Option ℕ) ScanRefusal → ToldWrite
+told_write (Ok left) = record { answer = 0; cut = cut_of left }
+told_write (Err r) = record { answer = refusal_number r; cut = 0 }
+
+abbrev pub write_told : ℕ → LeftFlash (Option ℕ) → LeftFlash ToldWrite
 write_told answer l = record {
-  told = record { answer = answer; cut = l.told.cut };
+  told = record { answer = answer; cut = cut_of l.told };
   registers = l.registers;
   flash = l.flash;
 }
@@ -51,10 +61,20 @@ scan_told serial bytes = record { answer = 0; cut = 0; serial = serial; length =
 abbrev pub scan_of : Entry → ToldScan
 scan_of e = scan_told e.scan.serial e.scan.bytes
 
+-- By what a take came to: the refusal, or the scan that it hands out.
+abbrev pub told_scan : Result (Option ToldScan) ScanRefusal → ToldScan
+told_scan (Ok (Some t)) = t
+told_scan (Ok None) = no_scan 0 1
+told_scan (Err r) = no_scan (refusal_number r) 0
+
 -- A take whose power is cut hands out nothing.
-abbrev pub mark_told : ToldScan → LeftFlash Made → LeftFlash ToldScan
+abbrev pub unless_cut : ToldScan → Option ℕ → ToldScan
+unless_cut t None = no_scan 0 1
+unless_cut t (Some left) = t
+
+abbrev pub mark_told : ToldScan → LeftFlash (Option ℕ) → LeftFlash ToldScan
 mark_told t l = record {
-  told = cond (is_on l.told.cut) (no_scan 0 1) t;
+  told = unless_cut t l.told;
   registers = l.registers;
   flash = l.flash;
 }

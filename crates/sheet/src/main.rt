@@ -3,59 +3,30 @@
 
 ghost use Rattle.std.specs.Prelude.{◌≤◌, length, IfOk};
 
-use sheet_run::Row;
-use sheets::Verdict;
 use std::io;
 use std::io::Read;
 
 // One byte more than a sheet may have: a longer one is too long, whatever follows.
 const INPUT_BYTES: usize = sheets::MAX_BYTES + 1;
 
-fn text(rt: &impl Print, words: &[u8]) -> io::Result<()> {
-    rt.write_all(words)
-}
-
-fn number(rt: &impl Print, n: u64) -> io::Result<()> {
-    print!(rt; "{n}")
-}
-
-fn line(rt: &impl Print, answer: u32, bits: u32) -> io::Result<()> {
-    number(rt, answer as u64)?;
-    text(rt, b" ")?;
-    number(rt, bits as u64)?;
-    text(rt, b"\n")
-}
-
-// The first numbers of the row, two a line.
-fn lines(rt: &impl Print, row: &Row, numbers: u32) -> io::Result<()>
-    requires { numbers ≤ 8192 }
-{
-    let count = numbers / 2;
-    for k in 0..count {
-        let at = 2 * (k as usize);
-        line(rt, row[at], row[at + 1])?;
-    }
-    Ok(())
-}
-
-fn bad(rt: &impl Print, place: usize) -> io::Result<()> {
-    text(rt, b"bad ")?;
-    number(rt, place as u64)?;
-    text(rt, b"\n")
-}
-
+// Two numbers of the row a line.
 #[tactic(auto, using(sheet_effects::proofs::Running::bench_few))]
 fn run(rt: &impl Print, sheet: &[u8]) -> io::Result<()> {
     let mut row = [0u32; sheet_run::ROW_NUMBERS];
     let ran = sheet_run::bench_run(sheet, &mut row);
-    let verdict = ran.verdict;
-    match verdict {
-        Verdict::Good(_) => lines(rt, &row, ran.numbers),
-        Verdict::Refused(place) => bad(rt, place),
+    match ran.verdict {
+        Ok(_) => {
+            for line in row[..ran.numbers as usize].chunks_exact(2) {
+                println!(rt; "{} {}", line[0], line[1])?;
+            }
+            Ok(())
+        }
+        Err(place) => println!(rt; "bad {place}"),
     }
 }
 
-// Reads until the buffer is full or the input ends: how many bytes of it are read.
+// Reads until the buffer is full or the input ends: how many bytes of it are read. A loop, since `read_exact` doesn't say how many came
+// before the end, and `read_to_end` asks for memory that may run out.
 fn read_full(input: &mut impl Read, bytes: &mut [u8]) -> io::Result<usize>
     ensures { IfOk result (λ n. n ≤ length bytes.new) }
 {

@@ -1,6 +1,5 @@
 -- A run, entry by entry: what the first of them leave. Assumes nothing.
-use mathlib.Core.Path.{◌≡◌, refl, ap, ◌∙◌}
-use mathlib.Core.Bool.{Bool, true, false}
+use mathlib.Core.Path.{◌≡◌, refl, sym, ap, ◌∙◌}
 use mathlib.Core.List.{List, [], ◌∷◌, ◌++◌, append-nil}
 use Prim.Native.Nat.{ℕ, ◌+◌, ◌*◌, ◌≤◌, ◌<◌}
 use native.Mathlib.Omega.{arith}
@@ -13,8 +12,8 @@ use Rattle.calls.specs.declared.ToldSeeds.{ToldSeeds}
 use Rattle.calls.specs.Calls.{Left, reset_in, initialise_in}
 use Rattle.sheets.specs.declared.Request.{Request}
 use Rattle.sheets.specs.declared.Request.TheVariants.{Whole, Rights}
-use Rattle.sheets.specs.declared.Verdict.TheVariants.{Good, Refused}
-use Rattle.sheets.specs.Sheet.{verdict_of, expanded, request_at}
+use Rattle.std.proofs.Common.{Option, None, Some, Ok, Err}
+use Rattle.sheets.specs.Sheet.{block_at, places_of, verdict_of, expanded, request_at}
 use Rattle.sheets.proofs.Counting.{good_runs, bad_runs, expanded_few}
 use Rattle.sheets.proofs.Loading.{sets_append}
 use Rattle.sheet_effects.specs.declared.Line.{Line}
@@ -41,12 +40,9 @@ pub performed_on : (sheet : List ℕ) (at : ℕ) (b : Bench)
 unfolding performed
 performed_on sheet at b = requested_on sheet b (request_at sheet at)
 
-pub line_few : (l : Line) → length (printed_of l) ≤ 2
-line_few l = few l.prints
-  where
-    few : (t : Bool) → length (printed_of (record { prints = t; answer = l.answer; bits = l.bits })) ≤ 2
-    few true = omega arith
-    few false = omega arith
+pub line_few : (l : Option Line) → length (printed_of l) ≤ 2
+line_few None = omega arith
+line_few (Some l) = omega arith
 
 -- ---- several entries
 
@@ -69,7 +65,7 @@ module _ {sheet s₀ : List ℕ} {f₀ : Flash} {row₀ : List ℕ} where
   running_none = record { printed = []; bench = refl; front = refl; written = refl; few = omega arith }
 
   pub running_more : {k : ℕ} {s : List ℕ} {f : Flash} {row : List ℕ} {n : ℕ} → k < length (expanded sheet)
-      → Running sheet s₀ f₀ row₀ k s f row n → {s' : List ℕ} {f' : Flash} {row' : List ℕ} {n' : ℕ} (l : Line)
+      → Running sheet s₀ f₀ row₀ k s f row n → {s' : List ℕ} {f' : Flash} {row' : List ℕ} {n' : ℕ} (l : Option Line)
       → ◌≡◌ {A = Bench} (record { registers = s'; flash = f'; printed = printed_of l }) (performed sheet (get_or (expanded sheet) k 0) (unprinted s f))
       → row' ≡ sets row n (printed_of l) → n' ≡ n + length (printed_of l)
       → Running sheet s₀ f₀ row₀ (k + 1) s' f' row' n'
@@ -90,27 +86,25 @@ module _ {sheet s₀ : List ℕ} {f₀ : Flash} {row₀ : List ℕ} where
 
 -- ---- a good sheet
 
-module _ (sheet : List ℕ) (k : ℕ) (good : Good k ≡ verdict_of sheet) where
-  pub runs_few : k ≤ 4096
-  runs_few = (good_runs sheet k good).2
-
-  pub runs_there : (i : ℕ) → i < k → i < length (expanded sheet)
-  runs_there i h = rw (← (good_runs sheet k good).1) h
+module _ (sheet : List ℕ) (k : ℕ) (good : Ok k ≡ verdict_of sheet) where
+  -- Its expansion is what runs.
+  pub runs_all : {places : List ℕ} → places ≡ places_of (block_at sheet 0 0) → places ≡ expanded sheet
+  runs_all e = e ∙ sym (good_runs sheet k good).0
 
   -- All of them have run.
   pub run_good : {s₀ : List ℕ} {f₀ : Flash} {row₀ : List ℕ} {i : ℕ} {s : List ℕ} {f : Flash} {row : List ℕ} {n : ℕ}
-      → i ≡ k → Running sheet s₀ f₀ row₀ i s f row n
-      → ◌≡◌ {A = SheetLeaves} (record { told = record { verdict = Good k; numbers = n }; registers = s; flash = f; row = row }) (run s₀ f₀ sheet row₀)
+      → i ≡ length (expanded sheet) → Running sheet s₀ f₀ row₀ i s f row n
+      → ◌≡◌ {A = SheetLeaves} (record { told = record { verdict = Ok k; numbers = n }; registers = s; flash = f; row = row }) (run s₀ f₀ sheet row₀)
   unfolding run
   run_good {s₀} {f₀} {row₀} {i} {s} {f} {row} {n} e r =
-      let all : take i (expanded sheet) ≡ expanded sheet = take_all i (expanded sheet) (omega (arith, (good_runs sheet k good).1)) in
+      let all : take i (expanded sheet) ≡ expanded sheet = take_all i (expanded sheet) (omega arith) in
       let b : ◌≡◌ {A = Bench} (record { registers = s; flash = f; printed = r.printed }) (performed_all sheet (expanded sheet) (unprinted s₀ f₀))
       = r.bench ∙ rw all refl in
       rw (← good, ← b, r.front, r.written) refl
 
 -- A bad sheet leaves all as it was.
-pub run_bad : (sheet s₀ : List ℕ) (f₀ : Flash) (row₀ : List ℕ) (p : ℕ) → Refused p ≡ verdict_of sheet
-    → ◌≡◌ {A = SheetLeaves} (record { told = record { verdict = Refused p; numbers = 0 }; registers = s₀; flash = f₀; row = row₀ }) (run s₀ f₀ sheet row₀)
+pub run_bad : (sheet s₀ : List ℕ) (f₀ : Flash) (row₀ : List ℕ) (p : ℕ) → Err p ≡ verdict_of sheet
+    → ◌≡◌ {A = SheetLeaves} (record { told = record { verdict = Err p; numbers = 0 }; registers = s₀; flash = f₀; row = row₀ }) (run s₀ f₀ sheet row₀)
 unfolding run performed_all
 run_bad sheet s₀ f₀ row₀ p e = rw (← e, bad_runs sheet p e) refl
 

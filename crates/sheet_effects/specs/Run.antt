@@ -1,5 +1,5 @@
 -- Running a bench sheet: what each entry does, what a whole sheet leaves, and where the program starts. (02, L4)
-use Rattle.std.specs.Prelude.{ℕ, cond, List, [], ◌∷◌, ◌++◌, length, replicate}
+use Rattle.std.specs.Prelude.{ℕ, List, [], ◌∷◌, ◌++◌, length, replicate, Option, None, Some}
 use Rattle.std.proofs.lemmas.List.Edits.{sets}
 use Rattle.model.specs.Geometry.{image_words}
 use Rattle.model.specs.Words.{all_ones}
@@ -9,8 +9,7 @@ use Rattle.calls.specs.declared.ToldBits.{ToldBits}
 use Rattle.calls.specs.Calls.{LeftBuffer, set_default_in, whole_in, reset_in, initialise_in}
 use Rattle.sheets.specs.declared.Request.{Request}
 use Rattle.sheets.specs.declared.Request.TheVariants.{Whole, Rights}
-use Rattle.sheets.specs.declared.Verdict.{Verdict}
-use Rattle.sheets.specs.Sheet.{verdict_of, expanded, request_at, loaded}
+use Rattle.sheets.specs.Sheet.{Verdict, verdict_of, expanded, request_at, loaded}
 use Rattle.sheet_effects.specs.declared.Line.{Line}
 use Rattle.sheet_effects.specs.declared.Ran.{Ran}
 
@@ -83,5 +82,6 @@ unfoldable pub bench_run : List ℕ → List ℕ → BenchLeaves
 bench_run sheet row = row_of (run bench_registers bench_flash sheet row)
 
 -- The numbers of a line, if there is one.
-abbrev pub printed_of : Line → List ℕ
-printed_of l = cond l.prints (l.answer ∷ l.bits ∷ []) []
+abbrev pub printed_of : Option Line → List ℕ
+printed_of None = []
+printed_of (Some l) = l.answer ∷ l.bits ∷ []

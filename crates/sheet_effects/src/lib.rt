@@ -3,15 +3,15 @@
 
 use sheets::Verdict;
 
-// What an entry prints, if it is an operation.
+// What an operation prints.
 #[derive(Clone, Copy)]
 pub struct Line {
-    pub prints: bool,
     pub answer: u32,
     pub bits: u32,
 }
 
-// The verdict, and how many numbers were written to the row.
+// The verdict, and how many numbers were written to the row. Not one Result: a bad sheet tells of how many too, which the edit
+// `numbers_of_a_bad_sheet` turns and `LeavesAsCalls` states of every sheet.
 #[derive(Clone, Copy)]
 pub struct Ran {
     pub verdict: Verdict,

@@ -7,11 +7,11 @@ ghost use Rattle.model.specs.State.{flash};
 ghost use Rattle.sheets.specs.Sheet.{verdict_of};
 ghost use Rattle.sheet_effects.specs.Run.{performed, run, bench_run, printed_of};
 
-use expansions::Places;
+use calls::ToldBits;
 use model::ERASED;
-use numbers::Parsed;
 use registers::Registers;
 use sheet_effects::{Line, Ran};
+use sheet_reader::Reader;
 use sheets::{MAX_BYTES, MAX_ENTRIES, Request, Verdict, WIDE_MAX_ENTRIES};
 
 // A row has two numbers for each entry that may run.
@@ -27,66 +27,59 @@ const IMAGE_WORDS: usize = 14848;
 // ---- the verdict
 
 // What follows the block is looked at before the expansion.
+#[tactic(auto, using(sheets::proofs::Counting::verdict_ways))]
 pub fn judge(sheet: &[u8]) -> Verdict
     ensures { result ≡ verdict_of sheet.now }
 {
     if MAX_BYTES < sheet.len() {
-        return Verdict::Refused(MAX_BYTES);
+        return Err(MAX_BYTES);
     }
-    let block = sheet_reader::opening(sheet);
-    match block {
-        Parsed::Number { value, next } => {
-            if sheet_reader::ends(sheet, next) {
-                if value <= MAX_ENTRIES {
-                    return Verdict::Good(value);
-                }
-                return Verdict::Refused(0);
-            }
-            Verdict::Refused(next)
-        }
-        Parsed::Bad(p) => Verdict::Refused(p),
+    let reader = Reader::new(sheet);
+    let block = reader.block()?;
+    if !reader.at(block.next).is_at_end() {
+        return Err(block.next);
+    }
+    if block.value <= MAX_ENTRIES {
+        Ok(block.value)
+    } else {
+        Err(0)
     }
 }
 
 // ---- the run
 
-// The entry whose tag stands at `at`.
-fn perform(s: &mut Registers, image: &mut [u32], sheet: &[u8], at: usize) -> Line
+// The entry whose tag stands at `at`: what it prints, if it is an operation.
+#[tactic(auto, unfolding(sheet_effects::specs::Run::performed, sheet_effects::specs::Run::requested))]
+fn perform(s: &mut Registers, image: &mut [u32], sheet: &[u8], at: usize) -> Option<Line>
     ensures { record { registers = s.new; flash = flash image.new; printed = printed_of result } ≡ performed sheet.now at (record { registers = s.old; flash = flash image.old; printed = [] }) }
 {
-    let request = sheet_entries::request_at(sheet, at);
-    match request {
+    match sheet_entries::request_at(sheet, at) {
         Request::Rights(rights) => {
-            settings::set_default(s, rights);
-            Line {
-                prints: false,
-                answer: 0,
-                bits: 0,
-            }
+            let _ = settings::set_default(s, rights);
+            None
         }
         Request::Whole { op, words } => {
             let mut buffer = sheet_entries::loaded(sheet, op, words);
-            let told = whole::run(s, image, op, &mut buffer);
-            Line {
-                prints: true,
+            let told = ToldBits::from(whole::run(s, image, op, &mut buffer));
+            Some(Line {
                 answer: told.answer,
                 bits: told.bits,
-            }
+            })
         }
     }
 }
 
 // A line's numbers, from place `n` of the row on: the place after them.
-fn write(row: &mut Row, n: usize, line: Line) -> usize
+fn write(row: &mut Row, n: usize, line: Option<Line>) -> usize
     requires { n + 2 ≤ 8192 }
     ensures { (row.new ≡ sets row.old n (printed_of line)) × (result ≡ n + length (printed_of line)) }
 {
-    if line.prints {
-        row[n] = line.answer;
-        row[n + 1] = line.bits;
-        return n + 2;
-    }
-    n
+    let Some(line) = line else {
+        return n;
+    };
+    row[n] = line.answer;
+    row[n + 1] = line.bits;
+    n + 2
 }
 
 // A good sheet's entries in order; a bad one is refused before any.
@@ -94,24 +87,23 @@ pub fn run(s: &mut Registers, image: &mut [u32], sheet: &[u8], row: &mut Row) ->
     ensures { record { told = result; registers = s.new; flash = flash image.new; row = row.new } ≡ run s.old (flash image.old) sheet.now row.old }
 {
     let verdict = judge(sheet);
-    let Verdict::Good(count) = verdict else {
-        return Ran {
+    match verdict {
+        Err(_) => Ran {
             verdict,
             numbers: 0,
-        };
-    };
-    let mut places: Places = [0usize; WIDE_MAX_ENTRIES];
-    expansions::expand(sheet, &mut places);
-    let mut n = 0;
-    let mut i: u32 = 0;
-    while i < count {
-        let line = perform(s, image, sheet, places[i as usize]);
-        n = write(row, n, line);
-        i += 1;
-    }
-    Ran {
-        verdict,
-        numbers: n as u32,
+        },
+        Ok(_) => {
+            let places = expansions::expand(sheet);
+            let mut n = 0;
+            for place in places.as_slice() {
+                let line = perform(s, image, sheet, *place);
+                n = write(row, n, line);
+            }
+            Ran {
+                verdict,
+                numbers: n as u32,
+            }
+        }
     }
 }
 
@@ -121,7 +113,7 @@ pub fn bench_run(sheet: &[u8], row: &mut Row) -> Ran
 {
     let mut image = [ERASED; IMAGE_WORDS];
     let mut s: Registers = [0u32; registers::COUNT];
-    lifecycle::reset(&mut s, PAGES);
-    lifecycle::initialise(&mut s, &image);
+    let _ = lifecycle::reset(&mut s, PAGES);
+    let _ = lifecycle::initialise(&mut s, &image);
     run(&mut s, &mut image, sheet, row)
 }

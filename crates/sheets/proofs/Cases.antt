@@ -5,7 +5,7 @@ use mathlib.Core.List.{[], ◌∷◌, map}
 use lib.ListN.{replicate, take}
 use Rattle.numbers.specs.Number.{continued, last_group, groups_value, shortest, number_between, number_at, limited, number_to, then_number, then_numbers}
 use Rattle.sheets.specs.declared.Request.TheVariants.{Whole, Rights}
-use Rattle.sheets.specs.declared.Verdict.TheVariants.{Good, Refused}
+use Rattle.std.proofs.Common.{Ok, Err}
 use Rattle.sheets.specs.Sheet.{kind_at, partition_at, type_at, address_at, count_at, operation_at, carried, stated_at, entry_with, block_with, block_at, verdict_of, expanded, request_at, words_from, loaded}
 
 -- Nothing; an empty block, and a byte after one; a tag that does not end, and one in a longer form; rights that do not end; a tag that
@@ -37,13 +37,13 @@ pub verdicts : map verdict_of (
     ∷ (2 ∷ 17 ∷ 2 ∷ 241 ∷ 1 ∷ 3 ∷ 7 ∷ 0 ∷ 0 ∷ 0 ∷ [])
     ∷ (2 ∷ 3 ∷ 1 ∷ 0 ∷ 0 ∷ 0 ∷ 0 ∷ 1 ∷ 0 ∷ 0 ∷ [])
     ∷ [])
-    ≡ Refused 0 ∷ Good 0 ∷ Refused 1 ∷ Refused 1 ∷ Refused 0 ∷ Refused 7 ∷ Refused 0 ∷ Refused 0 ∷ Refused 1
-    ∷ Refused 6 ∷ Refused 4 ∷ Refused 1 ∷ Refused 1 ∷ Refused 1 ∷ Refused 3 ∷ Good 1 ∷ Refused 16 ∷ Good 0 ∷ Refused 0 ∷ Refused 11 ∷ Good 4096 ∷ Refused 0 ∷ Good 3 ∷ []
+    ≡ Err 0 ∷ Ok 0 ∷ Err 1 ∷ Err 1 ∷ Err 0 ∷ Err 7 ∷ Err 0 ∷ Err 0 ∷ Err 1
+    ∷ Err 6 ∷ Err 4 ∷ Err 1 ∷ Err 1 ∷ Err 1 ∷ Err 3 ∷ Ok 1 ∷ Err 16 ∷ Ok 0 ∷ Err 0 ∷ Err 11 ∷ Ok 4096 ∷ Err 0 ∷ Ok 3 ∷ []
 unfolding verdict_of block_at block_with entry_with stated_at operation_at kind_at partition_at type_at address_at count_at carried continued last_group groups_value shortest number_between number_at limited number_to then_number then_numbers
 verdicts = refl
 
 -- 4,097 zeros.
-pub too_long : verdict_of (replicate 4097 0) ≡ Refused 4096
+pub too_long : verdict_of (replicate 4097 0) ≡ Err 4096
 unfolding verdict_of
 too_long = refl
 

@@ -9,9 +9,8 @@ use native.Mathlib.Omega.{arith}
 use lib.ListN.{length}
 use lib.Dec.{ltb, eqb}
 use Rattle.model.proofs.Bool.{which}
-use Rattle.numbers.specs.declared.Parsed.{Parsed}
-use Rattle.numbers.specs.declared.Parsed.TheVariants.{Number, Bad}
-use Rattle.numbers.specs.Number.{largest, number_at, number_to}
+use Rattle.std.proofs.Common.{Ok, Err}
+use Rattle.numbers.specs.Number.{Parsed, largest, number_at, number_to}
 use Rattle.numbers.proofs.Laws.{Goes, number_goes, number_to_goes, then_goes, numbers_go, number_none}
 use Rattle.sheets.specs.Sheet.{kind_at, partition_at, type_at, address_at, count_at, operation_at, carried, stated_at, Meaning, after, once, repeated, before, followed, entry_with, block_with, block_at, entry_at}
 use Rattle.sheets.specs.Sheet.Meaning.{Runs, Fault}
@@ -31,8 +30,8 @@ Fwd s a (Runs ps n) = (a < n) × (n ≤ length s)
 Fwd s a (Fault p) = Unit
 
 once_fwd : (s : List ℕ) (at next : ℕ) (r : Parsed) → Goes s next r → Fwd s next (once at r)
-once_fwd s at next (Number v n) g = g
-once_fwd s at next (Bad p) g = tt
+once_fwd s at next (Ok r) g = g
+once_fwd s at next (Err p) g = tt
 
 repeated_fwd : (s : List ℕ) (a b k : ℕ) (m : Meaning) → a ≤ b → Fwd s b m → Fwd s a (repeated k m)
 repeated_fwd s a b k (Runs ps n) h f = (omega arith, f.1)
@@ -40,8 +39,8 @@ repeated_fwd s a b k (Fault p) h f = tt
 
 after_fwd : (s : List ℕ) (at : ℕ) (r : Parsed) (f : ℕ → ℕ → Meaning) → Goes s at r
     → ((v n : ℕ) → at < n → n ≤ length s → Fwd s at (f v n)) → Fwd s at (after r f)
-after_fwd s at (Number v n) f g h = h v n g.0 g.1
-after_fwd s at (Bad p) f g h = tt
+after_fwd s at (Ok r) f g h = h r.value r.next g.0 g.1
+after_fwd s at (Err p) f g h = tt
 
 followed_fwd : (s : List ℕ) (a b : ℕ) (m : Meaning) (f : ℕ → Meaning) → a ≤ b → Fwd s b m → ((n : ℕ) → Fwd s n (f n)) → Fwd s a (followed m f)
 followed_fwd s a b (Runs ps n) f h g k = later (f n) (k n)
@@ -86,8 +85,8 @@ entry_forward s at next tag d = entry_fwd s (λ n. block_at s n (d + 1)) at next
 
 -- what comes next is asked only at a place that was reached
 after_ext : (s : List ℕ) (at : ℕ) (r : Parsed) (f g : ℕ → ℕ → Meaning) → Goes s at r → ((v n : ℕ) → at < n → f v n ≡ g v n) → after r f ≡ after r g
-after_ext s at (Number v n) f g w h = h v n w.0
-after_ext s at (Bad p) f g w h = refl
+after_ext s at (Ok r) f g w h = h r.value r.next w.0
+after_ext s at (Err p) f g w h = refl
 
 followed_ext : (s : List ℕ) (a : ℕ) (m : Meaning) (f g : ℕ → Meaning) → Fwd s a m → ((n : ℕ) → a ≤ n → f n ≡ g n) → followed m f ≡ followed m g
 followed_ext s a (Runs ps n) f g w h = ap (before ps) (h n (omega arith))

@@ -1,16 +1,12 @@
 -- Bench sheets: what the bytes of a sheet mean, and its verdict. (02, L4: shift sheets)
-use Rattle.std.specs.Prelude.{ℕ, zero, suc, ◌+◌, List, [], ◌∷◌, ◌++◌, cond, ◌&&◌, length, replicate, leb, ltb, eqb}
+use Rattle.std.specs.Prelude.{ℕ, zero, suc, ◌+◌, List, [], ◌∷◌, ◌++◌, cond, ◌&&◌, length, replicate, leb, ltb, eqb, Result, Ok, Err}
 use Rattle.std.proofs.lemmas.List.Edits.{sets}
 use Rattle.model.specs.Kinds.{is_program, max_count}
 use Rattle.model.specs.declared.Operation.{Operation}
-use Rattle.numbers.specs.declared.Parsed.{Parsed}
-use Rattle.numbers.specs.declared.Parsed.TheVariants.{Number, Bad}
-use Rattle.numbers.specs.Number.{largest, number_at, number_to, then_number, then_numbers, value_of, next_of}
+use Rattle.numbers.specs.Number.{Parsed, largest, number_at, number_to, then_number, then_numbers, value_of, next_of}
 use Rattle.sheets.specs.declared.Stated.{Stated}
 use Rattle.sheets.specs.declared.Request.{Request}
 use Rattle.sheets.specs.declared.Request.TheVariants.{Whole, Rights}
-use Rattle.sheets.specs.declared.Verdict.{Verdict}
-use Rattle.sheets.specs.declared.Verdict.TheVariants.{Good, Refused}
 
 -- ---- entry 1
 
@@ -61,13 +57,13 @@ pub data Meaning : Type 0 where
 
 -- A number, and what follows from its value and the place after it.
 abbrev pub after : Parsed → (ℕ → ℕ → Meaning) → Meaning
-after (Number v n) f = f v n
-after (Bad p) f = Fault p
+after (Ok r) f = f r.value r.next
+after (Err p) f = Fault p
 
 -- An entry that runs once, whose last number this is.
 abbrev pub once : ℕ → Parsed → Meaning
-once at (Number v n) = Runs (at ∷ []) n
-once at (Bad p) = Fault p
+once at (Ok r) = Runs (at ∷ []) r.next
+once at (Err p) = Fault p
 
 -- A block that runs k times.
 abbrev pub copies : ℕ → List ℕ → List ℕ
@@ -121,20 +117,24 @@ places_of (Fault p) = []
 
 -- ---- the sheet
 
+-- Good, with the number of entries that run, or refused, with the place where it is bad.
+abbrev pub Verdict : Type 0
+Verdict = Result ℕ ℕ
+
 -- The sheet is one block with nothing after it: what follows is bad at its first byte. Entries 1 and 3 after expansion are at most
 -- 4,096: if only they are too many, the place is 0.
 abbrev pub judged : List ℕ → Meaning → Verdict
-judged s (Runs ps n) = cond (ltb n (length s)) (Refused n) (cond (leb (length ps) 4096) (Good (length ps)) (Refused 0))
-judged s (Fault p) = Refused p
+judged s (Runs ps n) = cond (ltb n (length s)) (Err n) (cond (leb (length ps) 4096) (Ok (length ps)) (Err 0))
+judged s (Fault p) = Err p
 
 -- A sheet is at most 4,096 bytes: a longer one is bad at 4,096, whatever it holds.
 unfoldable pub verdict_of : List ℕ → Verdict
-verdict_of s = cond (leb (length s) 4096) (judged s (block_at s 0 0)) (Refused 4096)
+verdict_of s = cond (leb (length s) 4096) (judged s (block_at s 0 0)) (Err 4096)
 
 -- The places of the tags that a good sheet runs, in order; of a bad one none.
 abbrev pub run_of : Verdict → List ℕ → List ℕ
-run_of (Good n) ps = ps
-run_of (Refused p) ps = []
+run_of (Ok n) ps = ps
+run_of (Err p) ps = []
 
 unfoldable pub expanded : List ℕ → List ℕ
 expanded s = run_of (verdict_of s) (places_of (block_at s 0 0))
@@ -157,4 +157,4 @@ words_from s (suc k) r = value_of (then_number s largest r) ∷ words_from s k (
 
 -- The buffer of an operation: the words that its entry carries and then zeros, long enough for the largest n.
 unfoldable pub loaded : List ℕ → Operation → ℕ → List ℕ
-loaded s o at = sets (replicate max_count 0) 0 (words_from s (carried o) (Number 0 at))
+loaded s o at = sets (replicate max_count 0) 0 (words_from s (carried o) (Ok (record { value = 0; next = at })))

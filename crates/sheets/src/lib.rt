@@ -24,7 +24,7 @@ pub const REPEAT: u32 = 2;
 pub const RIGHTS: u32 = 3;
 
 // Entry 1 as the sheet states it: `words` is the place of the first word that it carries, `end` its last number. The operation and
-// that place are of use only where `end` is not bad.
+// that place are of use only where `end` is not bad. No Result: `stated_at` and `request_at` have an answer at every place.
 #[derive(Clone, Copy)]
 pub struct Stated {
     pub op: Operation,
@@ -39,9 +39,5 @@ pub enum Request {
     Rights(u8),
 }
 
-// Good with the number of entries that run, or refused with the place where it is bad.
-#[derive(Clone, Copy)]
-pub enum Verdict {
-    Good(u32),
-    Refused(usize),
-}
+// Good, with the number of entries that run, or refused, with the place where it is bad.
+pub type Verdict = Result<u32, usize>;

@@ -2,6 +2,7 @@
 -- has a read over three pages that is denied on the second page, so that it reads the first alone: the first list programs the
 -- other two. The read gives the same alone as in a shuffle, and two shuffles of the lists have other last error addresses. The
 -- lists are not apart once the first one erases the page that is read.
+use Rattle.std.specs.Prelude.{Err}
 use Prim.Native.Nat.{ℕ}
 use mathlib.Core.Path.{◌≡◌, refl, sym, ap, ◌∙◌}
 use mathlib.Core.Bool.{Bool, true, false, false≢true}
@@ -115,8 +116,8 @@ Spans = (has_one (places_of 10 cut.operation) (page 1) ≡ true) × (has_one (pl
 -- What is computed of them: by their plans at the start they keep apart, and do to their pages and to the record what was said.
 record Computed : Type 0 where
   begins : accepts (whole_answer start.controller start.flash) ≡ true
-  refused : plan_at start nonsense ≡ Recorded Malformed
-  denied_read : plan_at start cut ≡ Reads (Denied (Region 3)) 1 (places_of 10 cut.operation)
+  refused : plan_at start nonsense ≡ Recorded (Err Malformed)
+  denied_read : plan_at start cut ≡ Reads (Err (Denied (Region 3))) 1 (places_of 10 cut.operation)
   cut_buffer : (f : Flash) → (delivered_at f 1 0 (places_of 10 cut.operation) ++ drop (length (places_of 10 cut.operation)) cut.buffer)
       ≡ stored f last_of_page0 ∷ replicate 257 all_ones
   before_spares : some (plan_at start) changes_page before (page 0) ≡ false

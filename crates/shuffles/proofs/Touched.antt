@@ -28,6 +28,7 @@ use Rattle.model.specs.Refusals.{Answer}
 use Rattle.model.proofs.Bool.{and_left, and_right, by_test}
 use Rattle.model.proofs.Answers.{accepts_not, unrecorded_undenied, denied_if_told}
 use Rattle.model.proofs.DeniedReads.{readable_before, readable_le}
+use Rattle.plans.proofs.Told.{accepts_told}
 use Rattle.plans.specs.Plan.{Plan, Refused, Recorded, Reads, Programs, Erases, places_from, places_of, true_places, plan_started, plan_of, performed}
 use Rattle.plans.proofs.Firsts.{true_first, true_all}
 use Rattle.plans.proofs.Cases.{PlanCase, refuses, records, begins, plan_case}
@@ -103,7 +104,7 @@ module _ (c : Controller) (f : Flash) (o : Operation) (b : List ℕ) where
     -- An accepted operation has started: it reads or changes all its pages.
     module _ (h : number_of (answer_of (plan_of c f o b)) ≡ 0) where
       accepted_plan : plan_of c f o b ≡ plan_started c.setup o (operation_answer c.setup o)
-      accepted_plan = plan_by.begun (rw h)
+      accepted_plan = plan_by.begun (rw (accepts_told (answer_of (plan_of c f o b)) h))
 
       accepted_reads : reads_page (plan_of c f o b) q ≡ (is_read o && has_one (places_of c.setup.pages o) q)
       unfolding performed
@@ -113,7 +114,7 @@ module _ (c : Controller) (f : Flash) (o : Operation) (b : List ℕ) where
               → reads_page (plan_started c.setup o (operation_answer c.setup o)) q ≡ (is_read o && has_one (places_of c.setup.pages o) q)
           read r =
               let ok : number_of (operation_answer c.setup o) ≡ 0 = rw r at (rw accepted_plan at h) in
-              rw (r, true_first c.setup o r, true_all c.setup o r (rw ok))
+              rw (r, true_first c.setup o r, true_all c.setup o r (accepts_told (operation_answer c.setup o) ok))
 
       accepted_changes : changes_page (plan_of c f o b) q ≡ (not (is_read o) && has_one (places_of c.setup.pages o) q)
       accepted_changes = rw accepted_plan (started_changes c.setup o (operation_answer c.setup o) q)

@@ -1,89 +1,112 @@
 -- What the bytes of a slot hold, and what the slot is, by the tests that the code makes. Assumes nothing.
-use mathlib.Core.Path.{◌≡◌, refl, sym, ap, subst, ◌∙◌}
-use mathlib.Core.Bool.{Bool, true, false, cond, ◌&&◌}
+use mathlib.Core.Path.{◌≡◌, refl, sym, subst, ◌∙◌}
+use mathlib.Core.Bool.{Bool, true, false, ◌&&◌}
 use mathlib.Core.List.{List}
 use Prim.Native.Nat.{ℕ, ◌+◌, ◌≤◌}
-use lib.Dec.{leb, eqb}
-use lib.ListN.{length, get_or, drop}
+use lib.Dec.{leb}
+use lib.ListN.{length, get_or, take, drop}
 use borrow.Author.Tests.{leb-true, eq-eqb, ne_eqb}
+use Rattle.std.specs.Prelude.{Option, None, Some, Ok, Err, option_map}
+use Rattle.std.specs.Bool.{then_some}
+use Rattle.std.specs.Result.{result_ok}
 use Rattle.model.proofs.Bool.{and_left, and_right}
-use Rattle.numbers.specs.declared.Parsed.{Parsed}
-use Rattle.numbers.specs.declared.Parsed.TheVariants.{Number, Bad}
-use Rattle.numbers.specs.Number.{number_to, then_number, value_of}
-use Rattle.numbers.proofs.Laws.{Goes, number_to_goes, then_goes, then_small}
-use Rattle.scan_queue.specs.Payload.{max_serial, max_length, all, Payload, serial_in, length_in, body_of, payload_of}
-use Rattle.scan_queue.specs.Slots.{Slot, sealed_of, slot_at, words_at, blank}
+use Rattle.numbers.specs.declared.Numeral.{Numeral}
+use Rattle.numbers.specs.Number.{Parsed, number_to, then_number}
+use Rattle.numbers.proofs.Laws.{Goes, number_to_goes, number_to_small}
+use Rattle.scan_queue.specs.Payload.{max_serial, max_length, all, serial_in, length_in, body_of, payload_of}
+use Rattle.scan_queue.specs.Slots.{Slot, sealed_of, slot_at, blank}
 use Rattle.slots.specs.Code.{payload_bytes, to_scan, HeldAs}
+use Rattle.slots.proofs.Reading.{words_are}
 use Rattle.slots.specs.declared.Found.{Found}
-use Rattle.slots.specs.declared.Body.{Body}
-use Rattle.slots.specs.declared.Body.TheVariants.{Broken, Whole}
 
 -- ---- the bytes
 
-module _ (l : List ℕ) (serial n at : ℕ) (rest : Bool) (ones : rest ≡ all 255 (drop (at + n) l)) where
-  pub body_whole : n ≤ max_length → leb 1 n && (leb (at + n) (length l) && rest) ≡ true
-      → HeldAs l (body_of l serial (Number n at)) (Whole (record { serial = serial; start = at; count = n }))
-  unfolding body_of
-  body_whole h e = record {
-    is = rw (← ones, e) refl;
-    lies = (h, leb-true _ _ (and_left (leb (at + n) (length l)) _ (and_right (leb 1 n) _ e)));
-  }
+abbrev pub whole : List ℕ → Numeral → Bool
+whole l n = leb 1 n.value && (leb (n.next + n.value) (length l) && all 255 (drop (n.next + n.value) l))
 
-  pub body_broken : leb 1 n && (leb (at + n) (length l) && rest) ≡ false → HeldAs l (body_of l serial (Number n at)) Broken
-  unfolding body_of
-  body_broken e = record { is = rw (← ones, e) refl; lies = tt }
+pub body_is : (l : List ℕ) (serial : ℕ) (n : Numeral) (w : Bool) → w ≡ whole l n → n.value ≤ max_length
+    → HeldAs l (body_of l serial (Ok n)) (then_some w (record { serial = serial; start = n.next; count = n.value }))
+unfolding body_of
+body_is l serial n true e h = record {
+  is = rw (← e) refl;
+  lies = (h, leb-true _ _ (and_left (leb (n.next + n.value) (length l)) _ (and_right (leb 1 n.value) _ (sym e))));
+}
+body_is l serial n false e h = record { is = rw (← e) refl; lies = tt }
 
--- The length that was read is at most 48, and stands inside.
-pub length_goes : (l : List ℕ) → Goes l 0 (length_in l)
-unfolding serial_in length_in
-length_goes l = then_goes l 0 max_length (serial_in l) (number_to_goes l max_serial 0)
+module _ (l : List ℕ) (first : Parsed) (read : first ≡ number_to l max_serial 0) where
+  pub no_serial : result_ok first ≡ None → payload_of l ≡ None
+  unfolding payload_of serial_in length_in then_number body_of
+  no_serial h = go first read h
+    where
+      go : (r : Parsed) → r ≡ number_to l max_serial 0 → result_ok r ≡ None → payload_of l ≡ None
+      go (Ok n) e h = cc
+      go (Err p) e h = rw (← e) refl
 
-pub length_small : (l : List ℕ) → value_of (length_in l) ≤ max_length
-unfolding length_in
-length_small l = then_small l max_length (serial_in l)
+  module _ (serial : Numeral) (is : result_ok first ≡ Some serial) (second : Parsed) (next : second ≡ number_to l max_length serial.next) where
+    serial_is : serial_in l ≡ Ok serial
+    unfolding serial_in
+    serial_is = sym read ∙ go first is
+      where
+        go : (r : Parsed) → result_ok r ≡ Some serial → r ≡ Ok serial
+        go (Ok n) h = cc
+        go (Err p) h = cc
 
-module _ (l : List ℕ) (first second : Parsed) (read : first ≡ number_to l max_serial 0) (next : second ≡ then_number l max_length first) where
-  is_first : first ≡ serial_in l
-  unfolding serial_in
-  is_first = read
+    second_is : length_in l ≡ second
+    unfolding length_in then_number
+    second_is = rw serial_is (sym next)
 
-  is_second : second ≡ length_in l
-  unfolding length_in
-  is_second = next ∙ ap (then_number l max_length) is_first
+    pub no_count : result_ok second ≡ None → payload_of l ≡ None
+    unfolding payload_of body_of
+    no_count h = rw (second_is, serial_is) (go second h)
+      where
+        go : (r : Parsed) → result_ok r ≡ None → body_of l serial.value r ≡ None
+        go (Ok n) h = cc
+        go (Err p) h = refl
 
-  payload_is : payload_of l ≡ body_of l (value_of first) second
-  unfolding payload_of
-  payload_is = rw (is_first, is_second) refl
+    module _ (count : Numeral) (counted : result_ok second ≡ Some count) where
+      second_ok : second ≡ Ok count
+      second_ok = go second counted
+        where
+          go : (r : Parsed) → result_ok r ≡ Some count → r ≡ Ok count
+          go (Ok n) h = cc
+          go (Err p) h = cc
 
-  pub payload_bad : (p : ℕ) → second ≡ Bad p → HeldAs l (payload_of l) Broken
-  unfolding body_of
-  payload_bad p e = record { is = sym (payload_is ∙ rw e refl); lies = tt }
+      pub payload_is : payload_of l ≡ body_of l serial.value (Ok count)
+      unfolding payload_of
+      payload_is = rw (second_is, serial_is, second_ok) refl
 
-  pub payload_read : (v n : ℕ) → second ≡ Number v n → (r : Body) → HeldAs l (body_of l (value_of first) (Number v n)) r → HeldAs l (payload_of l) r
-  payload_read v n e r h = subst (λ (p : Payload). HeldAs l p r) (ap (body_of l (value_of first)) (sym e) ∙ sym payload_is) h
-
-  pub room : (v n : ℕ) → second ≡ Number v n → (n ≤ length l) × (v ≤ max_length)
-  room v n e =
-      let g : Goes l 0 (Number v n) = subst (λ (r : Parsed). Goes l 0 r) (sym is_second ∙ e) (length_goes l) in
-      let s : value_of (Number v n) ≤ max_length = subst (λ (r : Parsed). value_of r ≤ max_length) (sym is_second ∙ e) (length_small l) in
-      (g.1, s)
+      pub room : (count.next ≤ length l) × (count.value ≤ max_length)
+      room =
+          let read : number_to l max_length serial.next ≡ Ok count = sym next ∙ second_ok in
+          let g : Goes l serial.next (Ok count) = subst (Goes l serial.next) read (number_to_goes l max_length serial.next) in
+          (g.1, rw read at (number_to_small l max_length serial.next))
 
 -- ---- slots
 
 module _ (m : List ℕ) (p : ℕ) where
-  pub slot_sealed : get_or m p 0 ≡ 0 → slot_at m p ≡ sealed_of (get_or m (p + 1) 0) (payload_of (payload_bytes m p))
-  unfolding slot_at payload_bytes
-  slot_sealed e = rw (eq-eqb (get_or m p 0) 0 e) refl
-
-  pub slot_open : (get_or m p 0 ≡ 0 → ⊥) → slot_at m p ≡ cond (all blank (words_at 16 m p)) Slot.Unused Slot.Dead
+  pub slot_unused : (n : ℕ) → n ≡ 16 → (get_or m p 0 ≡ 0 → ⊥) → p + 16 ≤ length m → true ≡ all blank (take n (drop p m)) → Slot.Unused ≡ slot_at m p
   unfolding slot_at
-  slot_open e = rw (ne_eqb (get_or m p 0) 0 e) refl
+  slot_unused n k e h b = rw (ne_eqb (get_or m p 0) 0 e, words_are 16 m p h, ← k, ← b) refl
 
-  module _ (seal : get_or m p 0 ≡ 0) (r : Body) (held : HeldAs (payload_bytes m p) (payload_of (payload_bytes m p)) r) where
-    pub slot_broken : r ≡ Broken → slot_at m p ≡ Slot.Dead
-    slot_broken e = slot_sealed seal ∙ rw (← held.is, e) refl
+  pub slot_dirty : (n : ℕ) → n ≡ 16 → (get_or m p 0 ≡ 0 → ⊥) → p + 16 ≤ length m → false ≡ all blank (take n (drop p m)) → Slot.Dead ≡ slot_at m p
+  unfolding slot_at
+  slot_dirty n k e h b = rw (ne_eqb (get_or m p 0) 0 e, words_are 16 m p h, ← k, ← b) refl
 
-    pub slot_whole : (f : Found) → r ≡ Whole f
-        → slot_at m p ≡ cond (eqb (get_or m (p + 1) 0) blank) (Slot.Waiting (to_scan (payload_bytes m p) f))
-        (cond (eqb (get_or m (p + 1) 0) 0) (Slot.Taken (to_scan (payload_bytes m p) f)) (Slot.Odd (to_scan (payload_bytes m p) f)))
-    slot_whole f e = slot_sealed seal ∙ rw (← held.is, e) refl
+  module _ (seal : get_or m p 0 ≡ 0) where
+    slot_sealed : (r : Option Found) → HeldAs (payload_bytes m p) (payload_of (payload_bytes m p)) r
+        → slot_at m p ≡ sealed_of (get_or m (p + 1) 0) (option_map (to_scan (payload_bytes m p)) r)
+    unfolding slot_at payload_bytes
+    slot_sealed r held = rw (eq-eqb (get_or m p 0) 0 seal, held.is) refl
+
+    pub slot_broken : HeldAs (payload_bytes m p) (payload_of (payload_bytes m p)) None → Slot.Dead ≡ slot_at m p
+    slot_broken held = sym (slot_sealed None held)
+
+    module _ (f : Found) (held : HeldAs (payload_bytes m p) (payload_of (payload_bytes m p)) (Some f)) where
+      pub slot_waiting : get_or m (p + 1) 0 ≡ blank → Slot.Waiting (to_scan (payload_bytes m p) f) ≡ slot_at m p
+      slot_waiting e = sym (slot_sealed (Some f) held ∙ rw e refl)
+
+      pub slot_taken : get_or m (p + 1) 0 ≡ 0 → Slot.Taken (to_scan (payload_bytes m p) f) ≡ slot_at m p
+      slot_taken e = sym (slot_sealed (Some f) held ∙ rw e refl)
+
+      pub slot_odd : (get_or m (p + 1) 0 ≡ blank → ⊥) → (get_or m (p + 1) 0 ≡ 0 → ⊥) → Slot.Odd (to_scan (payload_bytes m p) f) ≡ slot_at m p
+      slot_odd e g = sym (slot_sealed (Some f) held ∙ rw (ne_eqb (get_or m (p + 1) 0) blank e, ne_eqb (get_or m (p + 1) 0) 0 g) refl)

@@ -1,18 +1,11 @@
 -- What the code's answers mean in the definitions' terms.
-use Rattle.std.specs.Prelude.{ℕ, ◌+◌, ◌/◌, ◌%◌, ◌≤◌, ◌≡◌, cond, List, eqb, length, take, drop}
-use Rattle.scan_queue.specs.Payload.{Scan, max_length, bytes_of, Payload, Malformed, Holds}
+use Rattle.std.specs.Prelude.{ℕ, ◌+◌, ◌≤◌, ◌≡◌, List, length, take, drop, Option, None, Some, option_map}
+use Rattle.scan_queue.specs.Payload.{Scan, max_length, bytes_of}
 use Rattle.scan_queue.specs.Slots.{words_at}
 use Rattle.scan_queue.specs.Slots as Slots
 use Rattle.slots.specs.declared.Found.{Found}
-use Rattle.slots.specs.declared.Body.{Body}
-use Rattle.slots.specs.declared.Body.TheVariants.{Broken, Whole}
 use Rattle.slots.specs.declared.Class.{Class}
 use Rattle.slots.specs.declared.Class.TheVariants.{Unused, Dead, Waiting, Taken, Odd}
-
--- Byte k of a word, lowest first.
-abbrev pub byte_in : ℕ → ℕ → ℕ
-byte_in w k =
-    cond (eqb k 0) (w % 256) (cond (eqb k 1) (w / 256 % 256) (cond (eqb k 2) (w / 65536 % 256) (w / 16777216 % 256)))
 
 -- The 56 bytes of words 2 to 15 of the slot at p.
 unfoldable pub payload_bytes : List ℕ → ℕ → List ℕ
@@ -22,17 +15,13 @@ payload_bytes m p = bytes_of (words_at 14 m (p + 2))
 abbrev pub to_scan : List ℕ → Found → Scan
 to_scan l f = record { serial = f.serial; bytes = take f.count (drop f.start l) }
 
-abbrev pub to_payload : List ℕ → Body → Payload
-to_payload l Broken = Malformed
-to_payload l (Whole f) = Holds (to_scan l f)
-
 -- Its bytes lie among them.
-abbrev pub Lies : List ℕ → Body → Type 0
-Lies l Broken = Unit {0}
-Lies l (Whole f) = (f.count ≤ max_length) × (f.start + f.count ≤ length l)
+abbrev pub Lies : List ℕ → Option Found → Type 0
+Lies l None = Unit {0}
+Lies l (Some f) = (f.count ≤ max_length) × (f.start + f.count ≤ length l)
 
-pub record HeldAs (l : List ℕ) (p : Payload) (r : Body) : Type 0 where
-  pub is : to_payload l r ≡ p
+pub record HeldAs (l : List ℕ) (p : Option Scan) (r : Option Found) : Type 0 where
+  pub is : option_map (to_scan l) r ≡ p
   pub lies : Lies l r
 
 abbrev pub to_slot : List ℕ → Class → Slots.Slot

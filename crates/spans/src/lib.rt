@@ -18,14 +18,12 @@ fn leading_pages(s: &Registers, o: Operation, from: Page, count: u32) -> u32
     requires { from.0 + count < 4294967296 }
     ensures { (result ≡ leading (page_grants (stands_for s.now).setup o) from count) × (result ≤ count) }
 {
-    let mut i: u32 = 0;
-    while i < count {
+    for i in 0..count {
         if !lookups::page_grants(s, o, Page(from.0 + i)) {
             return i;
         }
-        i += 1;
     }
-    i
+    count
 }
 
 // Added before a division by the page's bytes, it rounds up.

@@ -1,5 +1,5 @@
 -- What a step leaves, by the tests that it makes, and what a step that moves a word may count on. Assumes nothing.
-use Rattle.std.specs.Prelude.{None, Some}
+use Rattle.std.specs.Prelude.{Err, None, Some}
 use Prim.Native.Nat.{ℕ, ◌+◌, ◌<◌, ◌≤◌}
 use native.Mathlib.Omega.{arith}
 use mathlib.Core.Path.{◌≡◌, refl, ap, sym, subst, ◌∙◌}
@@ -18,6 +18,7 @@ use Rattle.model.specs.Checks.{out_of_range}
 use Rattle.model.specs.Steps.{progressed, advance, counted_bits, read_word, step, stalls}
 use Rattle.model.specs.Refusals.{Answer}
 use Rattle.model.specs.Refusals.{accepted}
+use Rattle.model.specs.declared.Refusal.{Refusal}
 use Rattle.model.specs.declared.Refusal.TheVariants.{Unexpected}
 use Rattle.model.specs.declared.Stepped.{Stepped}
 use Rattle.model.specs.declared.Movement.TheVariants.{Moved, Finished}
@@ -145,12 +146,9 @@ module _ (s : List ℕ) (f : Flash) where
   still a m = record { told = record { answer = number_of a; movement = m; bits = 0 }; registers = s; flash = f }
 
   -- Checks 1, 2 and 3 refuse,
-  pub step_early : (answer : Answer) → answer ≡ ready_answer (valid_with (decode s) f) (decode s).phase → accepts answer ≡ false
-      → still answer 0 ≡ step_in s f
+  pub step_early : {e : Refusal} → ready_answer (valid_with (decode s) f) (decode s).phase ≡ Err e → still (Err e) 0 ≡ step_in s f
   unfolding step_in
-  step_early answer asked h =
-      let refused : accepts (ready_answer (valid_with (decode s) f) (decode s).phase) ≡ false = rw asked at h in
-      rw (step_unready (decode s) f refused, asked, refused)
+  step_early h = rw (step_unready (decode s) f (rw h), h)
 
   -- or pass:
   module _ (passed : Ready s f) where
@@ -168,7 +166,7 @@ module _ (s : List ℕ) (f : Flash) where
     by_step e = ap (step_left s) (e ∙ ap (λ (c : Controller). step c f) (sym same))
 
     -- nothing is in progress,
-    pub step_nothing : progress_at s ≡ None → still Unexpected 0 ≡ step_in s f
+    pub step_nothing : progress_at s ≡ None → still (Err Unexpected) 0 ≡ step_in s f
     unfolding stands_for
     step_nothing e = by_step (step_idle (stands_for s) f ready e)
 

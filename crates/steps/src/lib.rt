@@ -3,48 +3,32 @@
 
 ghost use Rattle.std.specs.Prelude.{◌≡◌, ◌+◌, ◌<◌};
 ghost use Rattle.model.specs.State.{flash};
-ghost use Rattle.model.specs.Refusals.{number_of};
 ghost use Rattle.model.specs.Steps.{stalls, advance};
 ghost use Rattle.registers.specs.Registers.{stands_for};
-ghost use Rattle.calls.specs.Calls.{movement_number, step_left, step_in};
+ghost use Rattle.calls.specs.Calls.{told_step, step_left, step_in};
 ghost use Rattle.validity.specs.Ready.{Ready};
 ghost use Rattle.steps.specs.Stepping.{Moves, told_moved, registers_moved};
 
-use calls::ToldStep;
-use model::{Answer, Movement, Operation, Progress, QUEUE_WORDS, Work};
+use calls::Step;
+use model::{Movement, Operation, QUEUE_WORDS, Refusal, Work};
 use registers::Registers;
 
-// No word moves.
-pub fn still(answer: Answer, movement: Movement) -> ToldStep
-    ensures { result ≡ record { answer = number_of answer; movement = movement_number movement; bits = 0 } }
-{
-    let number = calls::number(answer);
-    let moved = calls::movement_number(movement);
-    ToldStep {
-        answer: number,
-        movement: moved,
-        bits: 0,
-    }
-}
-
 // Word `k` of `n` has moved: what is now in progress.
-fn moved(s: &mut Registers, n: usize, k: u32, bits: u32) -> ToldStep
+fn moved(s: &mut Registers, n: usize, k: u32, bits: u32) -> Step
     requires { k + 1 < 4294967296 }
-    ensures value { result ≡ told_moved n k bits }
-    ensures s_after { s.new ≡ registers_moved s.old n k }
+    ensures told { told_step (Ok result) ≡ told_moved n k bits }
+    ensures left { s.new ≡ registers_moved s.old n k }
 {
     if k as usize + 1 == n {
         registers::no_progress(s);
-        return ToldStep {
-            answer: 0,
-            movement: 2,
+        return Step {
+            movement: Movement::Finished,
             bits,
         };
     }
     registers::put_moved(s, k + 1);
-    ToldStep {
-        answer: 0,
-        movement: 1,
+    Step {
+        movement: Movement::Moved,
         bits,
     }
 }
@@ -61,9 +45,9 @@ pub fn stalls(s: &Registers, w: Work) -> bool
 }
 
 // Of a read, the next word goes to the read queue.
-fn advance_read(s: &mut Registers, image: &[u32], op: Operation, k: u32, readable: u32) -> ToldStep
+fn advance_read(s: &mut Registers, image: &[u32], op: Operation, k: u32, readable: u32) -> Step
     requires { Moves s.old (flash image.now) (Work.Read op k readable) }
-    ensures { record { told = result; registers = s.new; flash = flash image.now } ≡ step_left s.old (advance (stands_for s.old) (flash image.now) (Work.Read op k readable)) }
+    ensures { record { told = told_step (Ok result); registers = s.new; flash = flash image.now } ≡ step_left s.old (advance (stands_for s.old) (flash image.now) (Work.Read op k readable)) }
 {
     let d = registers::pages(s);
     let n = places::total_words(d, op);
@@ -75,9 +59,9 @@ fn advance_read(s: &mut Registers, image: &[u32], op: Operation, k: u32, readabl
 }
 
 // Of a program, the oldest queued word is combined with the stored one.
-fn advance_program(s: &mut Registers, image: &mut [u32], op: Operation, k: u32) -> ToldStep
+fn advance_program(s: &mut Registers, image: &mut [u32], op: Operation, k: u32) -> Step
     requires { Moves s.old (flash image.old) (Work.Program op k) }
-    ensures { record { told = result; registers = s.new; flash = flash image.new } ≡ step_left s.old (advance (stands_for s.old) (flash image.old) (Work.Program op k)) }
+    ensures { record { told = told_step (Ok result); registers = s.new; flash = flash image.new } ≡ step_left s.old (advance (stands_for s.old) (flash image.old) (Work.Program op k)) }
 {
     let d = registers::pages(s);
     let n = places::total_words(d, op);
@@ -90,9 +74,9 @@ fn advance_program(s: &mut Registers, image: &mut [u32], op: Operation, k: u32) 
 }
 
 // Of an erase, the stored word becomes all ones.
-fn advance_erase(s: &mut Registers, image: &mut [u32], op: Operation, k: u32) -> ToldStep
+fn advance_erase(s: &mut Registers, image: &mut [u32], op: Operation, k: u32) -> Step
     requires { Moves s.old (flash image.old) (Work.Erase op k) }
-    ensures { record { told = result; registers = s.new; flash = flash image.new } ≡ step_left s.old (advance (stands_for s.old) (flash image.old) (Work.Erase op k)) }
+    ensures { record { told = told_step (Ok result); registers = s.new; flash = flash image.new } ≡ step_left s.old (advance (stands_for s.old) (flash image.old) (Work.Erase op k)) }
 {
     let d = registers::pages(s);
     let n = places::total_words(d, op);
@@ -102,9 +86,9 @@ fn advance_erase(s: &mut Registers, image: &mut [u32], op: Operation, k: u32) ->
 }
 
 // One word moves, at the operation's next place.
-fn advance(s: &mut Registers, image: &mut [u32], w: Work) -> ToldStep
+fn advance(s: &mut Registers, image: &mut [u32], w: Work) -> Step
     requires { Moves s.old (flash image.old) w }
-    ensures { record { told = result; registers = s.new; flash = flash image.new } ≡ step_left s.old (advance (stands_for s.old) (flash image.old) w) }
+    ensures { record { told = told_step (Ok result); registers = s.new; flash = flash image.new } ≡ step_left s.old (advance (stands_for s.old) (flash image.old) w) }
 {
     match w {
         Work::Read {
@@ -118,27 +102,28 @@ fn advance(s: &mut Registers, image: &mut [u32], w: Work) -> ToldStep
 }
 
 // A step of a state that has passed checks 1 to 3: check 12.
-pub fn ready_step(s: &mut Registers, image: &mut [u32]) -> ToldStep
+#[tactic(auto, using(crate::proofs::Left::step_nothing, crate::proofs::Left::step_waits, crate::proofs::Left::step_moves, crate::proofs::Left::step_goes))]
+pub fn ready_step(s: &mut Registers, image: &mut [u32]) -> Result<Step, Refusal>
     requires { Ready s.old (flash image.old) }
-    ensures { record { told = result; registers = s.new; flash = flash image.new } ≡ step_in s.old (flash image.old) }
+    ensures { record { told = told_step result; registers = s.new; flash = flash image.new } ≡ step_in s.old (flash image.old) }
 {
-    let progress = registers::progress(s);
-    let Progress::Running(work) = progress else {
-        return still(Answer::Unexpected, Movement::None);
+    let Some(work) = registers::progress(s) else {
+        return Err(Refusal::Unexpected);
     };
     if stalls(s, work) {
-        return still(Answer::Accepted, Movement::Stalled);
+        return Ok(Step {
+            movement: Movement::Stalled,
+            bits: 0,
+        });
     }
-    advance(s, image, work)
+    Ok(advance(s, image, work))
 }
 
 // Checks 1, 2, 3 and 12.
-pub fn step(s: &mut Registers, image: &mut [u32]) -> ToldStep
-    ensures { record { told = result; registers = s.new; flash = flash image.new } ≡ step_in s.old (flash image.old) }
+#[tactic(auto, using(crate::proofs::Left::step_early))]
+pub fn step(s: &mut Registers, image: &mut [u32]) -> Result<Step, Refusal>
+    ensures { record { told = told_step result; registers = s.new; flash = flash image.new } ≡ step_in s.old (flash image.old) }
 {
-    let ready = validity::ready_with(s, image);
-    if !refusals::accepts(ready) {
-        return still(ready, Movement::None);
-    }
+    validity::ready_with(s, image)?;
     ready_step(s, image)
 }

@@ -1,22 +1,24 @@
 -- Laws of a survey: what it tells of the places is what the definitions of a write and a take ask. Assumes nothing.
 use mathlib.Core.Path.{◌≡◌, refl, ap, ◌∙◌}
 use mathlib.Core.Logic.{⊎_elim}
-use mathlib.Core.Bool.{Bool, true, false, cond, not, ◌&&◌}
+use mathlib.Core.Bool.{Bool, true, false, ◌&&◌}
 use mathlib.Core.List.{List, [], ◌∷◌, ◌++◌}
 use Prim.Native.Nat.{ℕ, zero, suc, ◌+◌, ◌*◌, ◌<◌, ◌≤◌, max}
 use native.Mathlib.Omega.{arith}
-use lib.Dec.{ltb, leb}
+use lib.Dec.{leb}
 use lib.ListN.{length, get_or, drop, drop_of_length-le}
 use lib.Seq.{drop-cons}
+use borrow.Author.Tests.{lt-ltb, le-ltb, leb-true, leb-false}
+use Rattle.std.specs.Prelude.{Option, None, Some, is_none}
 use Rattle.model.proofs.Bool.{which}
-use borrow.Author.Tests.{lt-ltb, le-ltb, ltb-true, ltb-false, leb-true, leb-false}
 use Rattle.scan_queue.specs.Payload.{Scan}
-use Rattle.scan_queue.specs.Slots.{Slot, Unused, Dead, Waiting, Taken, Odd, slot_at, waits, serial_of, is_unused, slots_from, Entry, cons, entries, insert, sorted, queue, highest}
-use Rattle.scan_queue.specs.Decisions.{Room, None, At, or_at, first_unused, is_nothing, none_waits}
+use Rattle.scan_queue.specs.Slots.{Slot, Unused, Dead, Waiting, Taken, Odd, slot_at, waits, serial_of, is_unused, slots_from, places, Entry, cons, entries, insert, sorted, queue, highest}
+use Rattle.scan_queue.specs.Decisions.{or_at, first_unused, none_waits}
 use Rattle.slots.specs.Code.{to_slot}
 use Rattle.slots.specs.declared.Class as Class
+use Rattle.survey.specs.declared.Oldest.{Oldest}
 use Rattle.survey.specs.declared.Survey.{Survey}
-use Rattle.survey.specs.Survey.{nothing, saw, saw_unused, saw_sealed, saw_waiting, surveyed}
+use Rattle.survey.specs.Survey.{nothing, saw, older, surveyed}
 
 -- ---- the places of a page
 
@@ -52,17 +54,17 @@ saw_same p l (Class.TheVariants.Waiting f) s = refl
 saw_same p l (Class.TheVariants.Taken f) s = refl
 saw_same p l (Class.TheVariants.Odd f) s = refl
 
-pub two_pages : (m ps qs : List ℕ) (s : Survey) → surveyed m (ps ++ qs) s ≡ surveyed m ps (surveyed m qs s)
+two_pages : (m ps qs : List ℕ) (s : Survey) → surveyed m (ps ++ qs) s ≡ surveyed m ps (surveyed m qs s)
 unfolding surveyed
 two_pages m [] qs s = refl
 two_pages m (p ∷ ps) qs s = ap (saw p (slot_at m p)) (two_pages m ps qs s)
 
--- ---- the highest serial
+pub both_seen : (m : List ℕ) (a b : ℕ) (s : Survey)
+    → surveyed m (places a b) s ≡ surveyed m (slots_from 16 a) (surveyed m (slots_from 16 b) s)
+unfolding places
+both_seen m a b s = two_pages m (slots_from 16 a) (slots_from 16 b) s
 
-higher : (a b : ℕ) → cond (ltb a b) b a ≡ max b a
-higher a b =
-    ⊎_elim (λ (e : ltb a b ≡ true). rw e (omega (arith, ltb-true a b e))) (λ (e : ltb a b ≡ false). rw e (omega (arith, ltb-false a b e)))
-    (which (ltb a b))
+-- ---- what it tells
 
 pub tells_highest : (m ps : List ℕ) → (surveyed m ps nothing).highest ≡ highest m ps
 unfolding surveyed highest
@@ -72,75 +74,58 @@ tells_highest m (p ∷ ps) = step (slot_at m p) ∙ ap (max (serial_of (slot_at 
     step : (x : Slot) → (saw p x (surveyed m ps nothing)).highest ≡ max (serial_of x) (surveyed m ps nothing).highest
     step Unused = omega arith
     step Dead = omega arith
-    step (Waiting s) = higher (surveyed m ps nothing).highest s.serial
-    step (Taken s) = higher (surveyed m ps nothing).highest s.serial
-    step (Odd s) = higher (surveyed m ps nothing).highest s.serial
+    step (Waiting s) = omega arith
+    step (Taken s) = omega arith
+    step (Odd s) = omega arith
 
--- ---- the unused slot of lowest place
-
-abbrev pub room_of : Survey → Room
-room_of s = cond s.vacant (At s.unused) None
-
-pub tells_room : (m ps : List ℕ) → room_of (surveyed m ps nothing) ≡ first_unused m ps
+pub tells_unused : (m ps : List ℕ) → (surveyed m ps nothing).unused ≡ first_unused m ps
 unfolding surveyed first_unused
-tells_room m [] = refl
-tells_room m (p ∷ ps) = step (slot_at m p) ∙ ap (or_at (is_unused (slot_at m p)) p) (tells_room m ps)
+tells_unused m [] = refl
+tells_unused m (p ∷ ps) = step (slot_at m p) ∙ ap (or_at (is_unused (slot_at m p)) p) (tells_unused m ps)
   where
-    step : (x : Slot) → room_of (saw p x (surveyed m ps nothing)) ≡ or_at (is_unused x) p (room_of (surveyed m ps nothing))
+    step : (x : Slot) → (saw p x (surveyed m ps nothing)).unused ≡ or_at (is_unused x) p (surveyed m ps nothing).unused
     step Unused = refl
     step Dead = refl
     step (Waiting s) = refl
     step (Taken s) = refl
     step (Odd s) = refl
 
--- ---- whether a scan waits
-
-pub tells_waits : (m ps : List ℕ) → not (surveyed m ps nothing).waits ≡ none_waits m ps
+pub tells_waits : (m ps : List ℕ) → is_none (surveyed m ps nothing).oldest ≡ none_waits m ps
 unfolding surveyed none_waits
 tells_waits m [] = refl
-tells_waits m (p ∷ ps) = step (slot_at m p) ∙ ap (λ (b : Bool). is_nothing (waits (slot_at m p)) && b) (tells_waits m ps)
+tells_waits m (p ∷ ps) = step (slot_at m p) ∙ ap (λ (b : Bool). is_none (waits (slot_at m p)) && b) (tells_waits m ps)
   where
-    step : (x : Slot) → not (saw p x (surveyed m ps nothing)).waits ≡ (is_nothing (waits x) && not (surveyed m ps nothing).waits)
+    step : (x : Slot) → is_none (saw p x (surveyed m ps nothing)).oldest ≡ (is_none (waits x) && is_none (surveyed m ps nothing).oldest)
     step Unused = refl
     step Dead = refl
     step (Waiting s) = refl
     step (Taken s) = refl
     step (Odd s) = refl
 
--- ---- the oldest: the head of the queue, if it has one
+-- The oldest is the head of the queue, if it has one.
+abbrev pub head_of : List Entry → Option Oldest
+head_of [] = None
+head_of (e ∷ l) = Some (record { place = e.place; serial = e.scan.serial })
 
-abbrev pub HeadIs : Survey → List Entry → Type 0
-HeadIs s [] = s.waits ≡ false
-HeadIs s (e ∷ l) = (s.waits ≡ true) × (s.oldest ≡ e.place) × (s.serial ≡ e.scan.serial)
-
-head_kept : (s t : Survey) (l : List Entry) → t.waits ≡ s.waits → t.oldest ≡ s.oldest → t.serial ≡ s.serial → HeadIs s l → HeadIs t l
-head_kept s t [] a b c h = a ∙ h
-head_kept s t (e ∷ l) a b c h = (a ∙ h.0, b ∙ h.1, c ∙ h.2)
-
-head_new : (s : Survey) (p : ℕ) (x : Scan) (l : List Entry) → HeadIs s l → HeadIs (saw_waiting p x.serial s) (insert (record { place = p; scan = x }) l)
+head_new : (o : Option Oldest) (p : ℕ) (x : Scan) (l : List Entry) → o ≡ head_of l
+    → Some (older p x.serial o) ≡ head_of (insert (record { place = p; scan = x }) l)
 unfolding insert
-head_new s p x [] h = (refl, rw h refl, rw h refl)
-head_new s p x (e ∷ l) h =
+head_new o p x [] h = rw h refl
+head_new o p x (e ∷ l) h =
     ⊎_elim
-    (λ (t : leb x.serial e.scan.serial ≡ true).
-    let f : ltb s.serial x.serial ≡ false = le-ltb s.serial x.serial (omega (arith, leb-true x.serial e.scan.serial t)) in
-    rw t (refl, rw (h.0, f) refl, rw (h.0, f) refl))
-    (λ (t : leb x.serial e.scan.serial ≡ false).
-    let f : ltb s.serial x.serial ≡ true = lt-ltb s.serial x.serial (omega (arith, leb-false x.serial e.scan.serial t)) in
-    rw t (refl, rw (h.0, f) h.1, rw (h.0, f) h.2))
+    (λ (t : leb x.serial e.scan.serial ≡ true). rw (h, t, le-ltb e.scan.serial x.serial (omega (arith, leb-true x.serial e.scan.serial t))) refl)
+    (λ (t : leb x.serial e.scan.serial ≡ false). rw (h, t, lt-ltb e.scan.serial x.serial (omega (arith, leb-false x.serial e.scan.serial t))) refl)
     (which (leb x.serial e.scan.serial))
 
-pub tells_oldest : (m ps : List ℕ) → HeadIs (surveyed m ps nothing) (queue m ps)
+pub tells_oldest : (m ps : List ℕ) → (surveyed m ps nothing).oldest ≡ head_of (queue m ps)
 unfolding surveyed queue entries sorted
 tells_oldest m [] = refl
 tells_oldest m (p ∷ ps) = step (slot_at m p) (tells_oldest m ps)
   where
-    step : (x : Slot) → HeadIs (surveyed m ps nothing) (sorted (entries (λ q. waits (slot_at m q)) ps))
-        → HeadIs (saw p x (surveyed m ps nothing)) (sorted (cons p (waits x) (entries (λ q. waits (slot_at m q)) ps)))
-    step Unused h = head_kept (surveyed m ps nothing) (saw_unused p (surveyed m ps nothing)) (sorted (entries (λ q. waits (slot_at m q)) ps)) refl refl refl h
+    step : (x : Slot) → (surveyed m ps nothing).oldest ≡ head_of (sorted (entries (λ q. waits (slot_at m q)) ps))
+        → (saw p x (surveyed m ps nothing)).oldest ≡ head_of (sorted (cons p (waits x) (entries (λ q. waits (slot_at m q)) ps)))
+    step Unused h = h
     step Dead h = h
-    step (Waiting s) h = head_new (surveyed m ps nothing) p s (sorted (entries (λ q. waits (slot_at m q)) ps)) h
-    step (Taken s) h =
-        head_kept (surveyed m ps nothing) (saw_sealed s.serial (surveyed m ps nothing)) (sorted (entries (λ q. waits (slot_at m q)) ps)) refl refl refl h
-    step (Odd s) h =
-        head_kept (surveyed m ps nothing) (saw_sealed s.serial (surveyed m ps nothing)) (sorted (entries (λ q. waits (slot_at m q)) ps)) refl refl refl h
+    step (Waiting s) h = head_new (surveyed m ps nothing).oldest p s (sorted (entries (λ q. waits (slot_at m q)) ps)) h
+    step (Taken s) h = h
+    step (Odd s) h = h

@@ -1,199 +1,239 @@
 // A small controller, D = 10, through the public calls: what each answers, one line a call.
 #![tactic(auto)]
 
-use calls::{ToldHostWord, ToldStep, ToldWord};
-use model::{ByteAddress, Operation, Page, PageSetting, Region};
+use calls::Step;
+use model::{
+    Answer, ByteAddress, ERASED, Operation, PAGE_WORDS, Page, PageSetting, Refusal, Region, Seeds,
+};
 use registers::Registers;
-use std::io;
+use std::{fmt, io};
 
 // D, and the words of its image.
 const PAGES: u32 = 10;
 
 const WORDS: usize = 11776;
 
-const PAGE_WORDS: usize = 256;
+// ---- operations
 
-// What a start reports that names nobody.
-const NO_DECIDER: u32 = 255;
-
-const READ: u8 = 0;
-
-const PROGRAM: u8 = 1;
-
-const PAGE_ERASE: u8 = 2;
-
-// ---- lines
-
-fn text(rt: &impl Print, words: &[u8]) -> io::Result<()> {
-    rt.write_all(words)
+#[derive(Clone, Copy)]
+enum Kind {
+    Read,
+    Program,
+    PageErase,
+    Unknown(u8),
 }
 
-fn number(rt: &impl Print, n: u64) -> io::Result<()> {
-    print!(rt; "{n}")
+impl From<Kind> for u8 {
+    fn from(kind: Kind) -> u8 {
+        match kind {
+            Kind::Read => 0,
+            Kind::Program => 1,
+            Kind::PageErase => 2,
+            Kind::Unknown(number) => number,
+        }
+    }
 }
 
-fn word(rt: &impl Print, w: u32) -> io::Result<()> {
-    text(rt, b" 0x")?;
-    print!(rt; "{w:08x}")
-}
-
-// The name of a call, and its answer.
-fn told(rt: &impl Print, name: &[u8], answer: u32) -> io::Result<()> {
-    text(rt, name)?;
-    text(rt, b" ")?;
-    number(rt, answer as u64)
-}
-
-fn line(rt: &impl Print, name: &[u8], answer: u32) -> io::Result<()> {
-    told(rt, name, answer)?;
-    text(rt, b"\n")
-}
-
-fn fetched(rt: &impl Print, name: &[u8], r: ToldWord) -> io::Result<()> {
-    told(rt, name, r.answer)?;
-    word(rt, r.word)?;
-    text(rt, b"\n")
-}
-
-fn host_fetched(rt: &impl Print, name: &[u8], r: ToldHostWord) -> io::Result<()> {
-    told(rt, name, r.answer)?;
-    word(rt, r.word)?;
-    text(rt, b"\n")
-}
-
-fn stepped(rt: &impl Print, r: ToldStep) -> io::Result<()> {
-    told(rt, b"step", r.answer)?;
-    text(rt, b" ")?;
-    number(rt, r.bits as u64)?;
-    text(rt, b" bits\n")
-}
-
-// ---- calls
-
-fn start(
-    rt: &impl Print,
-    s: &mut Registers,
-    name: &[u8],
-    kind: u8,
-    address: u32,
-    count: u32,
-) -> io::Result<()> {
-    let o = Operation {
-        kind,
+fn data(kind: Kind, address: u32, count: u32) -> Operation {
+    Operation {
+        kind: u8::from(kind),
         partition: 0,
         info: 0,
         address: ByteAddress(address),
         count,
-    };
-    let begun = operations::start(s, o);
-    told(rt, name, begun.answer)?;
-    if begun.decider != NO_DECIDER {
-        text(rt, b" by ")?;
-        number(rt, begun.decider as u64)?;
     }
-    text(rt, b"\n")
 }
 
-fn push(rt: &impl Print, s: &mut Registers, word: u32) -> io::Result<()> {
-    line(rt, b"push", queueing::push(s, word))
+// ---- what the calls answer
+
+// An answer's number, and who decided, where it is 9.
+#[derive(Clone, Copy)]
+struct Answered(Answer);
+
+impl From<Answer> for Answered {
+    fn from(answer: Answer) -> Self {
+        Answered(answer)
+    }
 }
 
-fn pop(rt: &impl Print, s: &mut Registers) -> io::Result<()> {
-    fetched(rt, b"pop", queueing::pop(s))
+impl From<Result<Option<Seeds>, Refusal>> for Answered {
+    fn from(initialised: Result<Option<Seeds>, Refusal>) -> Self {
+        Answered(initialised.map(|_| ()))
+    }
 }
 
-fn two_steps(rt: &impl Print, s: &mut Registers, image: &mut [u32]) -> io::Result<()> {
-    stepped(rt, steps::step(s, image))?;
-    stepped(rt, steps::step(s, image))
+impl fmt::Display for Answered {
+    fn fmt<W: fmt::Write>(&self, f: &mut fmt::Formatter<W>) -> fmt::Result {
+        write!(f, "{}", refusals::number_of(self.0))?;
+        match self.0 {
+            Err(Refusal::Denied(by)) => write!(f, " by {}", refusals::decider_number(by)),
+            _ => Ok(()),
+        }
+    }
+}
+
+// Of a pop, and of a host read.
+#[derive(Clone, Copy)]
+struct Fetched(Result<u32, Refusal>);
+
+impl From<Result<u32, Refusal>> for Fetched {
+    fn from(fetched: Result<u32, Refusal>) -> Self {
+        Fetched(fetched)
+    }
+}
+
+impl fmt::Display for Fetched {
+    fn fmt<W: fmt::Write>(&self, f: &mut fmt::Formatter<W>) -> fmt::Result {
+        let answer = Answered(self.0.map(|_| ()));
+        write!(f, "{answer} 0x{:08x}", self.0.unwrap_or(0))
+    }
+}
+
+#[derive(Clone, Copy)]
+struct Stepped {
+    answer: Answered,
+    bits: u32,
+}
+
+impl From<Result<Step, Refusal>> for Stepped {
+    fn from(stepped: Result<Step, Refusal>) -> Self {
+        Stepped {
+            answer: Answered(stepped.map(|_| ())),
+            bits: stepped.map_or(0, |step| step.bits),
+        }
+    }
+}
+
+impl fmt::Display for Stepped {
+    fn fmt<W: fmt::Write>(&self, f: &mut fmt::Formatter<W>) -> fmt::Result {
+        write!(f, "{} {} bits", self.answer, self.bits)
+    }
 }
 
 // ---- the walk
 
-// Rights for pages 0 to 3 only, and to read an information page.
-fn set_rights(rt: &impl Print, s: &mut Registers) -> io::Result<()> {
-    let pages = Region {
-        on: true,
-        first: Page(0),
-        count: 4,
-        rights: 7,
-    };
-    line(rt, b"set region", settings::set_region(s, 0, pages))?;
-    let page = PageSetting {
-        on: true,
-        rights: 1,
-    };
-    line(
-        rt,
-        b"set information page",
-        settings::set_info(s, 1, 2, 1, page),
-    )
+#[derive(Clone, Copy)]
+struct Flash {
+    registers: Registers,
+    image: [u32; WORDS],
 }
 
-fn made(rt: &impl Print, s: &mut Registers, image: &[u32]) -> io::Result<()> {
-    line(rt, b"reset", lifecycle::reset(s, PAGES))?;
-    set_rights(rt, s)?;
-    let r = lifecycle::initialise(s, image);
-    line(rt, b"initialise", r.answer)
-}
-
-// Two words are programmed at the end of page 0's first window.
-fn programmed(rt: &impl Print, s: &mut Registers, image: &mut [u32]) -> io::Result<()> {
-    start(rt, s, b"start program", PROGRAM, 0x38, 2)?;
-    push(rt, s, 0x1234_5678)?;
-    push(rt, s, 0xFFFF_0000)?;
-    push(rt, s, 0)?;
-    two_steps(rt, s, image)
-}
-
-// They are read back, and read by the host.
-fn read(rt: &impl Print, s: &mut Registers, image: &mut [u32]) -> io::Result<()> {
-    start(rt, s, b"start read", READ, 0x38, 2)?;
-    two_steps(rt, s, image)?;
-    pop(rt, s)?;
-    pop(rt, s)?;
-    pop(rt, s)?;
-    host_fetched(
-        rt,
-        b"host read",
-        host::host_read(s, image, ByteAddress(0x38)),
-    )
-}
-
-// One step for each word of a page: the sum of the bits.
-fn page_steps(s: &mut Registers, image: &mut [u32]) -> u64 {
-    let mut bits: u64 = 0;
-    for i in 0..PAGE_WORDS {
-        let r = steps::step(s, image);
-        bits = std::num::wrapping_add_u64(bits, r.bits as u64);
+impl Flash {
+    fn start(&mut self, rt: &impl Print, name: &str, o: Operation) -> io::Result<()> {
+        let answer = Answered::from(operations::start(&mut self.registers, o));
+        println!(rt; "start {name} {answer}")
     }
-    bits
-}
 
-// The words that were programmed are erased with their page.
-fn erased(rt: &impl Print, s: &mut Registers, image: &mut [u32]) -> io::Result<()> {
-    start(rt, s, b"start page erase", PAGE_ERASE, 0x3FC, 0)?;
-    let bits = page_steps(s, image);
-    number(rt, PAGE_WORDS as u64)?;
-    text(rt, b" steps ")?;
-    number(rt, bits)?;
-    text(rt, b" bits\n")
-}
+    fn push(&mut self, rt: &impl Print, word: u32) -> io::Result<()> {
+        let answer = Answered::from(queueing::push(&mut self.registers, word));
+        println!(rt; "push {answer}")
+    }
 
-// Page 4 has no rights, and there is no kind 9.
-fn refused(rt: &impl Print, s: &mut Registers) -> io::Result<()> {
-    start(rt, s, b"start program on page 4", PROGRAM, 0x1000, 1)?;
-    start(rt, s, b"start kind 9", 9, 0, 1)
+    fn pop(&mut self, rt: &impl Print) -> io::Result<()> {
+        let fetched = Fetched::from(queueing::pop(&mut self.registers));
+        println!(rt; "pop {fetched}")
+    }
+
+    fn host_read(&self, rt: &impl Print, address: u32) -> io::Result<()> {
+        let at = ByteAddress(address);
+        let fetched = Fetched::from(host::host_read(&self.registers, &self.image, at));
+        println!(rt; "host read {fetched}")
+    }
+
+    fn step(&mut self) -> Stepped {
+        Stepped::from(steps::step(&mut self.registers, &mut self.image))
+    }
+
+    fn two_steps(&mut self, rt: &impl Print) -> io::Result<()> {
+        for _ in 0..2 {
+            let stepped = self.step();
+            println!(rt; "step {stepped}")?;
+        }
+        Ok(())
+    }
+
+    fn reset(&mut self, rt: &impl Print, name: &str, pages: u32) -> io::Result<()> {
+        let answer = Answered::from(lifecycle::reset(&mut self.registers, pages));
+        println!(rt; "{name} {answer}")
+    }
+
+    // Rights for pages 0 to 3 only, and to read an information page.
+    fn set_rights(&mut self, rt: &impl Print) -> io::Result<()> {
+        let pages = Region {
+            on: true,
+            first: Page(0),
+            count: 4,
+            rights: 7,
+        };
+        let answer = Answered::from(settings::set_region(&mut self.registers, 0, pages));
+        println!(rt; "set region {answer}")?;
+        let page = PageSetting {
+            on: true,
+            rights: 1,
+        };
+        let answer = Answered::from(settings::set_info(&mut self.registers, 1, 2, 1, page));
+        println!(rt; "set information page {answer}")
+    }
+
+    fn make(&mut self, rt: &impl Print) -> io::Result<()> {
+        self.reset(rt, "reset", PAGES)?;
+        self.set_rights(rt)?;
+        let answer = Answered::from(lifecycle::initialise(&mut self.registers, &self.image));
+        println!(rt; "initialise {answer}")
+    }
+
+    // Two words are programmed at the end of page 0's first window.
+    fn program(&mut self, rt: &impl Print) -> io::Result<()> {
+        self.start(rt, "program", data(Kind::Program, 0x38, 2))?;
+        for word in [0x1234_5678, 0xFFFF_0000, 0] {
+            self.push(rt, word)?;
+        }
+        self.two_steps(rt)
+    }
+
+    // They are read back, and read by the host.
+    fn read(&mut self, rt: &impl Print) -> io::Result<()> {
+        self.start(rt, "read", data(Kind::Read, 0x38, 2))?;
+        self.two_steps(rt)?;
+        for _ in 0..3 {
+            self.pop(rt)?;
+        }
+        self.host_read(rt, 0x38)
+    }
+
+    // The words that were programmed are erased with their page: one step for each word.
+    fn erase(&mut self, rt: &impl Print) -> io::Result<()> {
+        self.start(rt, "page erase", data(Kind::PageErase, 0x3FC, 0))?;
+        let mut bits = 0u32;
+        for _ in 0..PAGE_WORDS {
+            bits = bits.wrapping_add(self.step().bits);
+        }
+        println!(rt; "{PAGE_WORDS} steps {bits} bits")
+    }
+
+    // Page 4 has no rights, and there is no kind 9.
+    fn refused(&mut self, rt: &impl Print) -> io::Result<()> {
+        self.start(rt, "program on page 4", data(Kind::Program, 0x1000, 1))?;
+        self.start(rt, "kind 9", data(Kind::Unknown(9), 0, 1))
+    }
+
+    fn rma(&mut self, rt: &impl Print) -> io::Result<()> {
+        let answer = Answered::from(lifecycle::rma(&mut self.registers, &mut self.image));
+        println!(rt; "RMA {answer}")
+    }
 }
 
 fn main(rt: HostRuntime) -> io::Result<()> {
-    let mut image = [0xFFFF_FFFFu32; WORDS];
-    let mut s: Registers = [0u32; registers::COUNT];
-    made(&rt, &mut s, &image)?;
-    programmed(&rt, &mut s, &mut image)?;
-    read(&rt, &mut s, &mut image)?;
-    erased(&rt, &mut s, &mut image)?;
-    refused(&rt, &mut s)?;
-    line(&rt, b"RMA", lifecycle::rma(&mut s, &mut image))?;
-    start(&rt, &mut s, b"start read", READ, 0, 1)?;
-    line(&rt, b"reset with 257 pages", lifecycle::reset(&mut s, 257))
+    let mut flash = Flash {
+        registers: [0; registers::COUNT],
+        image: [ERASED; WORDS],
+    };
+    flash.make(&rt)?;
+    flash.program(&rt)?;
+    flash.read(&rt)?;
+    flash.erase(&rt)?;
+    flash.refused(&rt)?;
+    flash.rma(&rt)?;
+    flash.start(&rt, "read", data(Kind::Read, 0, 1))?;
+    flash.reset(&rt, "reset with 257 pages", 257)
 }

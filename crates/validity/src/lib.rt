@@ -27,15 +27,13 @@ fn regions_hold(s: &Registers) -> bool
 {
     let limit = 2 * (registers::pages(s) as usize);
     let mut ok = true;
-    let mut flags: u32 = 0;
-    let mut rights: u32 = 0;
-    for i in 0..8usize {
-        let ends = ends_by(registers::region(s, i), limit);
-        let flag = registers::region_flag(s, i);
-        let right = registers::region_rights(s, i);
-        flags = flags | flag;
-        rights = rights | right;
-        ok = ok & ends;
+    let mut flags = 0;
+    let mut rights = 0;
+    for i in 0..8 {
+        let row = registers::region_row(s, i);
+        flags |= row.flag;
+        rights |= row.rights;
+        ok &= ends_by(registers::region(s, i), limit);
     }
     ok & ((flags <= 1) & (rights <= 7))
 }
@@ -43,17 +41,17 @@ fn regions_hold(s: &Registers) -> bool
 fn pages_hold(s: &Registers) -> bool
     ensures { result ≡ (every (setting_encoded s.now) 26 && all page_fits (info_of s.now)) }
 {
-    let mut flags: u32 = 0;
-    let mut rights: u32 = 0;
-    for i in 0..26usize {
-        let flag = registers::page_flag(s, i);
-        let right = registers::page_rights(s, i);
-        flags = flags | flag;
-        rights = rights | right;
+    let mut flags = 0;
+    let mut rights = 0;
+    for i in 0..26 {
+        let row = registers::page_row(s, i);
+        flags |= row.flag;
+        rights |= row.rights;
     }
     (flags <= 1) & (rights <= 7)
 }
 
+#[tactic(auto, unfolding(registers::specs::Registers::stands_for))]
 fn queues_fit(s: &Registers, ready: bool) -> bool
     ensures { result ≡ queues_fit ready (stands_for s.now).queues }
 {

@@ -1,54 +1,30 @@
 // One case: an operation by steps, and the same as a whole, each from its own copy of the state.
-use super::drive::Run;
-use super::given::{ONES, WORDS};
-use super::print::{number, ruled, text};
-use super::{drive, print};
-use model::Operation;
+use super::asked::Asked;
+use super::drive::{Flash, Run};
 use registers::Registers;
 use std::io;
 
-pub fn bits(rt: &impl Print, n: u64) -> io::Result<()> {
-    number(rt, b", ", n)?;
-    text(rt, b" bits")
+// By steps on the one, and as a whole operation on the other.
+pub fn case_on(rt: &impl Print, flash: &mut Flash, again: &mut Flash, o: Asked) -> io::Result<()> {
+    let Run {
+        answer,
+        steps,
+        bits,
+        ..
+    } = flash.by_steps(o, 0);
+    let whole = again.as_a_whole(o, 0);
+    println!(rt; "{o}: {answer}, {steps} steps, {bits} bits; whole {whole}")
 }
 
-fn line(rt: &impl Print, r: Run, w: Run) -> io::Result<()> {
-    ruled(rt, b": ", r.answer, r.decider)?;
-    number(rt, b", ", r.steps)?;
-    text(rt, b" steps")?;
-    bits(rt, r.bits)?;
-    ruled(rt, b"; whole ", w.answer, w.decider)?;
-    bits(rt, w.bits)?;
-    text(rt, b"\n")
+pub fn case(rt: &impl Print, s: &Registers, o: Asked) -> io::Result<()> {
+    let mut flash = Flash::blank(s);
+    let mut again = flash;
+    case_on(rt, &mut flash, &mut again, o)
 }
 
-// By steps on one image, and as a whole operation on the other.
-pub fn case_on(
-    rt: &impl Print,
-    s: &Registers,
-    image: &mut [u32],
-    again: &mut [u32],
-    o: Operation,
-) -> io::Result<()> {
-    let mut stepped = *s;
-    let mut whole = *s;
-    let r = drive::by_steps(&mut stepped, image, o, 0);
-    let w = drive::as_a_whole(&mut whole, again, o, 0);
-    print::operation(rt, o)?;
-    line(rt, r, w)
-}
-
-pub fn case(rt: &impl Print, s: &Registers, o: Operation) -> io::Result<()> {
-    let mut image = [ONES; WORDS];
-    let mut again = [ONES; WORDS];
-    case_on(rt, s, &mut image, &mut again, o)
-}
-
-pub fn first_with_zeros(image: &[u32]) -> u64 {
-    for i in 0..image.len() {
-        if image[i] != ONES {
-            return i as u64;
-        }
+pub fn cases(rt: &impl Print, s: &Registers, operations: &[Asked]) -> io::Result<()> {
+    for o in operations {
+        case(rt, s, *o)?;
     }
-    image.len() as u64
+    Ok(())
 }

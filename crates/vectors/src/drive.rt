@@ -1,76 +1,129 @@
-// An operation run to its end, by steps or as a whole.
+// Registers and an image, and operations run to their ends on them, by steps or as a whole.
+use super::asked::Asked;
+use super::given::{ONES, WORDS};
+use super::told::{Answered, Completed, Stepped};
 use model::Operation;
 use registers::Registers;
-
-// `word` is the last one popped, or the first of a whole operation's buffer; `steps` counts those that moved a word.
-#[derive(Clone, Copy)]
-pub struct Run {
-    pub answer: u32,
-    pub decider: u32,
-    pub steps: u64,
-    pub bits: u64,
-    pub word: u32,
-}
+use std::fmt;
 
 // More steps than the largest operation of D = 16 has words, 7,424.
 const BUDGET: usize = 8000;
 
 // More words than an operation may have, 1,024, so check 6 cannot answer.
-const BUFFER: usize = 1025;
+pub const BUFFER: usize = 1025;
 
-const MOVED: u32 = 1;
-
-const FINISHED: u32 = 2;
-
-// The last word moves too.
-fn moves(movement: u32) -> bool {
-    (movement == MOVED) | (movement == FINISHED)
+#[derive(Clone, Copy)]
+pub enum Way {
+    Steps,
+    Whole,
 }
 
-// The word read, or the last one before it if there is none to pop.
-pub fn popped(s: &mut Registers, last: u32) -> u32 {
-    let r = queueing::pop(s);
-    if r.answer == 0 { r.word } else { last }
-}
-
-// Push, step, pop. Only a program takes the push, and only a read has a word to pop.
-fn turn(s: &mut Registers, image: &mut [u32], word: u32, r: Run) -> Run {
-    queueing::push(s, word);
-    let t = steps::step(s, image);
-    let last = popped(s, r.word);
-    Run {
-        answer: r.answer,
-        decider: r.decider,
-        steps: std::num::wrapping_add_u64(r.steps, moves(t.movement) as u64),
-        bits: std::num::wrapping_add_u64(r.bits, t.bits as u64),
-        word: last,
+impl fmt::Display for Way {
+    fn fmt<W: fmt::Write>(&self, f: &mut fmt::Formatter<W>) -> fmt::Result {
+        match self {
+            Way::Steps => write!(f, "by steps"),
+            Way::Whole => write!(f, "as a whole"),
+        }
     }
 }
 
-// Steps past the last word are refused, and move and count nothing.
-pub fn by_steps(s: &mut Registers, image: &mut [u32], o: Operation, word: u32) -> Run {
-    let begun = operations::start(s, o);
-    let mut r = Run {
-        answer: begun.answer,
-        decider: begun.decider,
-        steps: 0,
-        bits: 0,
-        word: 0,
-    };
-    for i in 0..BUDGET {
-        r = turn(s, image, word, r);
-    }
-    r
+// `word` is the last one popped, or the first of a whole operation's buffer; `steps` counts those that moved a word.
+#[derive(Clone, Copy)]
+pub struct Run {
+    pub answer: Answered,
+    pub steps: u64,
+    pub bits: u64,
+    pub word: u32,
 }
 
-pub fn as_a_whole(s: &mut Registers, image: &mut [u32], o: Operation, word: u32) -> Run {
-    let mut buffer = [word; BUFFER];
-    let done = whole::run(s, image, o, &mut buffer);
-    Run {
-        answer: done.answer,
-        decider: done.decider,
-        steps: 0,
-        bits: done.bits as u64,
-        word: buffer[0],
+impl fmt::Display for Run {
+    fn fmt<W: fmt::Write>(&self, f: &mut fmt::Formatter<W>) -> fmt::Result {
+        write!(f, "{}, {} bits", self.answer, self.bits)
+    }
+}
+
+pub fn start(s: &mut Registers, o: Asked) -> Answered {
+    Answered::from(operations::start(s, Operation::from(o)))
+}
+
+#[derive(Clone, Copy)]
+pub struct Flash {
+    pub registers: Registers,
+    pub image: [u32; WORDS],
+}
+
+impl Flash {
+    // An image of ones.
+    pub fn blank(s: &Registers) -> Self {
+        Flash {
+            registers: *s,
+            image: [ONES; WORDS],
+        }
+    }
+
+    pub fn start(&mut self, o: Asked) -> Answered {
+        start(&mut self.registers, o)
+    }
+
+    pub fn step(&mut self) -> Stepped {
+        Stepped::from(steps::step(&mut self.registers, &mut self.image))
+    }
+
+    pub fn pop(&mut self) -> Option<u32> {
+        queueing::pop(&mut self.registers).ok()
+    }
+
+    pub fn whole(&mut self, o: Asked, buffer: &mut [u32]) -> Completed {
+        let o = Operation::from(o);
+        Completed::from(whole::run(&mut self.registers, &mut self.image, o, buffer))
+    }
+
+    // Push, step, pop. Only a program takes the push, and only a read has a word to pop.
+    fn turn(&mut self, word: u32, run: &mut Run) {
+        let _ = queueing::push(&mut self.registers, word);
+        let stepped = self.step();
+        if stepped.moves() {
+            run.steps = run.steps.wrapping_add(1);
+        }
+        run.bits = run.bits.wrapping_add(u64::from(stepped.bits()));
+        if let Some(popped) = self.pop() {
+            run.word = popped;
+        }
+    }
+
+    // Steps past the last word are refused, and move and count nothing.
+    pub fn by_steps(&mut self, o: Asked, word: u32) -> Run {
+        let mut run = Run {
+            answer: self.start(o),
+            steps: 0,
+            bits: 0,
+            word: 0,
+        };
+        for _ in 0..BUDGET {
+            self.turn(word, &mut run);
+        }
+        run
+    }
+
+    pub fn as_a_whole(&mut self, o: Asked, word: u32) -> Run {
+        let mut buffer = [word; BUFFER];
+        let done = self.whole(o, &mut buffer);
+        Run {
+            answer: done.answer,
+            steps: 0,
+            bits: u64::from(done.bits),
+            word: buffer[0],
+        }
+    }
+
+    pub fn run(&mut self, way: Way, o: Asked, word: u32) -> Run {
+        match way {
+            Way::Steps => self.by_steps(o, word),
+            Way::Whole => self.as_a_whole(o, word),
+        }
+    }
+
+    pub fn first_with_zeros(&self) -> usize {
+        self.image.iter().position(|w| *w != ONES).unwrap_or(WORDS)
     }
 }

@@ -4,6 +4,7 @@
 // on an image of zeros.
 #![tactic(auto)]
 
+mod asked;
 mod cases;
 mod deciders;
 mod denied_reads;
@@ -12,21 +13,21 @@ mod erases;
 mod given;
 mod images;
 mod page_rights;
-mod print;
+mod told;
 mod turns;
 mod word_spans;
 
-use given::data;
+use asked::{Kind, data};
 use registers::Registers;
 use std::io;
 
 // The order of 3 and 5.
 fn no_kind(rt: &impl Print, s: &Registers) -> io::Result<()> {
-    print::text(rt, b"uninitialised controller: ")?;
-    let uninitialised = given::all_rights();
-    cases::case(rt, &uninitialised, data(9, 0x0000, 1))?;
-    print::text(rt, b"ready controller: ")?;
-    cases::case(rt, s, data(9, 0x0000, 1))
+    let o = data(Kind::Unknown(9), 0x0000, 1);
+    print!(rt; "uninitialised controller: ")?;
+    cases::case(rt, &given::all_rights(), o)?;
+    print!(rt; "ready controller: ")?;
+    cases::case(rt, s, o)
 }
 
 fn main(rt: HostRuntime) -> io::Result<()> {

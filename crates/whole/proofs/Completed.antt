@@ -1,4 +1,5 @@
 -- What a whole operation leaves of the registers, by the tests that the code makes. Assumes nothing.
+use Rattle.std.specs.Prelude.{Err, Ok}
 use Prim.Native.Nat.{ℕ}
 use mathlib.Core.Path.{◌≡◌, refl, ap, sym, subst, ◌∙◌}
 use mathlib.Core.Bool.{true, false, ◌&&◌, ◌||◌, not}
@@ -18,6 +19,7 @@ use Rattle.model.specs.declared.Operation.{Operation}
 use Rattle.model.specs.declared.Controller.{Controller}
 use Rattle.model.specs.Refusals.{Answer}
 use Rattle.model.specs.Refusals.{accepted}
+use Rattle.model.specs.declared.Refusal.{Refusal}
 use Rattle.model.specs.declared.Refusal.TheVariants.{Busy, ShortBuffer}
 use Rattle.model.proofs.Answers.{recorded_if_refused, both_accept}
 use Rattle.model.proofs.Moving.{with_valid}
@@ -35,22 +37,19 @@ use Rattle.whole.specs.Admitted.{Admitted}
 
 -- ---- checks 1 to 4
 
-module _ (s : List ℕ) (f : Flash) (a : Answer) (asked : a ≡ ready_answer (valid_with (decode s) f) (decode s).phase) where
+module _ (s : List ℕ) (f : Flash) where
   -- Where 1, 2 or 3 refuses, that is the answer;
-  pub unready : accepts a ≡ false → a ≡ whole_answer (decode s) f
+  pub unready : {e : Refusal} → ready_answer (valid_with (decode s) f) (decode s).phase ≡ Err e → Err e ≡ whole_answer (decode s) f
   unfolding whole_answer
-  unready h =
-      let refused : accepts (ready_answer (valid_with (decode s) f) (decode s).phase) ≡ false = rw asked at h in
-      rw (refused, asked)
+  unready w = rw w
 
   -- otherwise what is in progress and the queues are read where they lie.
-  pub ready : accepts a ≡ true
+  pub ready : {done : Unit} → ready_answer (valid_with (decode s) f) (decode s).phase ≡ Ok done
       → check (is_busy (progress_at s) || not (eqb (queue_at s reads_from).len 0 && eqb (queue_at s programs_from).len 0)) Busy ≡ whole_answer (decode s) f
   unfolding whole_answer stands_for
-  ready h =
-      let passed : accepts (ready_answer (valid_with (decode s) f) (decode s).phase) ≡ true = rw asked at h in
-      let same = taken_stands s (with_valid (decode s) f (ready_valid (valid_with (decode s) f) (decode s).phase passed)) in
-      rw passed (ap (λ (c : Controller). check (is_busy c.progress || not (both_empty c.queues)) Busy) (sym same))
+  ready w =
+      let same = taken_stands s (with_valid (decode s) f (ready_valid (valid_with (decode s) f) (decode s).phase (rw w))) in
+      rw w (ap (λ (c : Controller). check (is_busy c.progress || not (both_empty c.queues)) Busy) (sym same))
 
 -- An empty queue has its 16 places.
 empty_places : length empty_queue.words ≡ 16
@@ -61,18 +60,18 @@ empty_places = refl
 
 module _ (s : List ℕ) (f : Flash) (o : Operation) (b : List ℕ) where
   -- Refused by 1 to 4,
-  pub run_refused : (a : Answer) → a ≡ whole_answer (decode s) f → accepts a ≡ false
-      → record { told = told_bits a 0; registers = s; flash = f; buffer = b } ≡ whole_in s f o b
+  pub run_refused : {e : Refusal} → whole_answer (decode s) f ≡ Err e
+      → record { told = told_bits (Err e) 0; registers = s; flash = f; buffer = b } ≡ whole_in s f o b
   unfolding whole_in plan_of performed
-  run_refused a e h =
-      let refused : accepts (whole_answer (decode s) f) ≡ false = rw e at h in
+  run_refused w =
+      let refused : accepts (whole_answer (decode s) f) ≡ false = rw w in
       let stops : whole (decode s) f o b ≡ leaving (decode s) (whole_answer (decode s) f) 0 f b = closed_form (decode s) f o b ∙ rw refused in
-      rw (stops, e, refused, early_unrecorded (decode s) f)
+      rw (stops, refused, early_unrecorded (decode s) f, w)
 
   module _ (free : accepts (whole_answer (decode s) f) ≡ true) where
     -- or by 6, it changes nothing.
     pub run_short : short_buffer o b ≡ true
-        → record { told = told_bits ShortBuffer 0; registers = s; flash = f; buffer = b } ≡ whole_in s f o b
+        → record { told = told_bits (Err ShortBuffer) 0; registers = s; flash = f; buffer = b } ≡ whole_in s f o b
     unfolding whole_in plan_of performed
     run_short h = rw (closed_form (decode s) f o b, free, h)
 

@@ -3,7 +3,7 @@
 
 ghost use Rattle.std.specs.Prelude.{◌≡◌, true, ◌++◌, ◌≤◌, length, drop};
 ghost use Rattle.model.specs.State.{flash};
-ghost use Rattle.model.specs.Refusals.{accepts};
+ghost use Rattle.model.specs.Refusals.{accepted, accepts};
 ghost use Rattle.model.specs.Queue.{empty_queue};
 ghost use Rattle.model.specs.Places.{total_words};
 ghost use Rattle.model.specs.Checks.{operation_answer};
@@ -12,28 +12,24 @@ ghost use Rattle.plans.specs.Plan.{places_of, delivered_at, plan_started, plan_a
 ghost use Rattle.registers.specs.Layout.{reads_from};
 ghost use Rattle.registers.specs.Registers.{setup_of, stands_for, decode, put_queue};
 ghost use Rattle.transfers.specs.Placed.{Placed};
-ghost use Rattle.calls.specs.Calls.{told_bits, whole_left, whole_in};
+ghost use Rattle.calls.specs.Calls.{answer_of, or_zero, told_bits, whole_left, whole_in};
 ghost use Rattle.whole.specs.Admitted.{Admitted};
 
-use calls::ToldBits;
-use model::{Answer, Operation};
+use model::{Answer, Operation, Refusal};
 use registers::Registers;
 
 // ---- checks 1 to 4, and 6
 
 // Of a whole operation 4 also applies if a queue holds a word.
+#[tactic(auto, using(crate::proofs::Completed::unready))]
 pub fn whole_answer(s: &Registers, image: &[u32]) -> Answer
     ensures { result ≡ whole_answer (decode s.now) (flash image.now) }
 {
-    let ready = validity::ready_with(s, image);
-    if !refusals::accepts(ready) {
-        return ready;
-    }
-    let progress = registers::progress(s);
-    let busy = refusals::is_busy(progress);
+    validity::ready_with(s, image)?;
+    let busy = registers::progress(s).is_some();
     let reads = registers::read_count(s) == 0;
     let programs = registers::program_count(s) == 0;
-    refusals::check(busy | !(reads & programs), Answer::Busy)
+    refusals::check(busy | !(reads & programs), Refusal::Busy)
 }
 
 // Only an operation that passes check 5 comes to check 6.
@@ -48,43 +44,31 @@ pub fn short_buffer(o: Operation, buffer: &[u32]) -> bool
 
 // ---- what is done once they have passed
 
-fn told(answer: Answer, bits: u32) -> ToldBits
-    ensures { result ≡ told_bits answer bits }
-{
-    let told = calls::told(answer);
-    ToldBits {
-        answer: told.answer,
-        decider: told.decider,
-        bits,
-    }
-}
-
 // A read's words go to the buffer, and the queue that they go through is left empty.
 fn read(s: &mut Registers, image: &[u32], o: Operation, buffer: &mut [u32], readable: u32)
     requires { Placed (setup_of s.old).pages o (flash image.now) × (total_words (setup_of s.old).pages o ≤ length buffer.old) }
-    ensures s_after { s.new ≡ put_queue s.old reads_from empty_queue }
-    ensures buffer_after { buffer.new ≡ delivered_at (flash image.now) readable 0 (places_of (setup_of s.old).pages o) ++ drop (length (places_of (setup_of s.old).pages o)) buffer.old }
+    ensures registers { s.new ≡ put_queue s.old reads_from empty_queue }
+    ensures buffer { buffer.new ≡ delivered_at (flash image.now) readable 0 (places_of (setup_of s.old).pages o) ++ drop (length (places_of (setup_of s.old).pages o)) buffer.old }
 {
     transfers::read(registers::pages(s), image, o, buffer, readable);
     registers::put_reads(s, queue::empty());
 }
 
-// An operation that passes every check.
-fn started(s: &mut Registers, image: &mut [u32], o: Operation, buffer: &mut [u32]) -> ToldBits
+// An operation that passes every check: the bits that it changes.
+fn started(s: &mut Registers, image: &mut [u32], o: Operation, buffer: &mut [u32]) -> u32
     requires { Admitted s.old (flash image.old) o buffer.old × (accepts (operation_answer (setup_of s.old) o) ≡ true) }
-    ensures { record { told = result; registers = s.new; flash = flash image.new; buffer = buffer.new } ≡ whole_left s.old (performed (stands_for s.old) (flash image.old) o buffer.old (plan_started (setup_of s.old) o Answer.Accepted)) }
+    ensures { record { told = told_bits accepted result; registers = s.new; flash = flash image.new; buffer = buffer.new } ≡ whole_left s.old (performed (stands_for s.old) (flash image.old) o buffer.old (plan_started (setup_of s.old) o Answer.Accepted)) }
 {
     if places::is_read(o) {
         read(s, image, o, buffer, o.count);
-        return told(Answer::Accepted, 0);
+        return 0;
     }
     if places::is_program(o) {
         let bits = transfers::program(s, image, o, buffer);
         registers::put_programs(s, queue::empty());
-        return told(Answer::Accepted, bits);
+        return bits;
     }
-    let bits = transfers::erase(s, image, o);
-    told(Answer::Accepted, bits)
+    transfers::erase(s, image, o)
 }
 
 // What the answer of checks 5, 7, 8 and 9 leaves: a refusal is recorded, and a denied read runs.
@@ -94,35 +78,38 @@ fn answered(
     o: Operation,
     buffer: &mut [u32],
     answer: Answer,
-) -> ToldBits
+) -> Result<u32, Refusal>
     requires { Admitted s.old (flash image.old) o buffer.old × (answer ≡ operation_answer (setup_of s.old) o) }
-    ensures { record { told = result; registers = s.new; flash = flash image.new; buffer = buffer.new } ≡ whole_left s.old (performed (stands_for s.old) (flash image.old) o buffer.old (plan_answered (setup_of s.old) o answer)) }
+    ensures { record { told = told_bits (answer_of result) (or_zero result); registers = s.new; flash = flash image.new; buffer = buffer.new } ≡ whole_left s.old (performed (stands_for s.old) (flash image.old) o buffer.old (plan_answered (setup_of s.old) o answer)) }
 {
-    if refusals::accepts(answer) {
-        return started(s, image, o, buffer);
+    match answer {
+        Ok(()) => Ok(started(s, image, o, buffer)),
+        Err(refusal) => {
+            let errors = answers::recorded(s, o, answer);
+            if answers::is_denied_read(o, answer) {
+                let readable = answers::readable(s, o, answer);
+                read(s, image, o, buffer, readable);
+                registers::put_errors(s, errors);
+                return Err(refusal);
+            }
+            registers::put_errors(s, errors);
+            Err(refusal)
+        }
     }
-    let errors = answers::recorded(s, o, answer);
-    if answers::is_denied_read(o, answer) {
-        let readable = answers::readable(s, o, answer);
-        read(s, image, o, buffer, readable);
-        registers::put_errors(s, errors);
-        return told(answer, 0);
-    }
-    registers::put_errors(s, errors);
-    told(answer, 0)
 }
 
 // 6 comes after 5, since a malformed operation does not come to it, and before 7, 8 and 9.
-pub fn run(s: &mut Registers, image: &mut [u32], o: Operation, buffer: &mut [u32]) -> ToldBits
-    ensures { record { told = result; registers = s.new; flash = flash image.new; buffer = buffer.new } ≡ whole_in s.old (flash image.old) o buffer.old }
+#[tactic(auto, using(crate::proofs::Completed::run_refused, crate::proofs::Completed::run_short, model::proofs::Answers::check_passed))]
+pub fn run(
+    s: &mut Registers,
+    image: &mut [u32],
+    o: Operation,
+    buffer: &mut [u32],
+) -> Result<u32, Refusal>
+    ensures { record { told = told_bits (answer_of result) (or_zero result); registers = s.new; flash = flash image.new; buffer = buffer.new } ≡ whole_in s.old (flash image.old) o buffer.old }
 {
-    let first = whole_answer(s, image);
-    if !refusals::accepts(first) {
-        return told(first, 0);
-    }
-    if short_buffer(o, buffer) {
-        return told(Answer::ShortBuffer, 0);
-    }
+    whole_answer(s, image)?;
+    refusals::check(short_buffer(o, buffer), Refusal::ShortBuffer)?;
     let answer = answers::operation_answer(s, o);
     answered(s, image, o, buffer, answer)
 }

@@ -1,0 +1,15 @@
+-- The bytes left fall at each call.
+use Rattle.std.proofs.Common.{◌+◌, ◌-◌, length}
+use Rattle.sheets.specs.Sheet.{block_at}
+use Rattle.expansions.proofs.Turns.{Turning}
+use Rattle.expansions.proofs.+lay_block_lay_entry.Given as goal
+
+abbrev pub decreases-lay_block : goal.decreases-lay_block
+decreases-lay_block l = length l.s.now - l.at
+
+abbrev pub decreases-lay_entry : goal.decreases-lay_entry
+decreases-lay_entry l = length l.s.now - l.next
+
+-- As many turns are laid as are over.
+abbrev pub invariant-lay_entry-loop : goal.invariant-lay_entry-loop
+invariant-lay_entry-loop l = Turning (block_at l.s l.inner (l.depth + 1)) l.k l.fn.places l.counter l.places

@@ -1,3 +1,0 @@
--- Running a bench sheet: where its entries are found.
-
-pub mod Placed
