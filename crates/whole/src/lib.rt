@@ -57,7 +57,7 @@ fn read(s: &mut Registers, image: &[u32], o: Operation, buffer: &mut [u32], read
 // An operation that passes every check: the bits that it changes.
 fn started(s: &mut Registers, image: &mut [u32], o: Operation, buffer: &mut [u32]) -> u32
     requires { Admitted s.old (flash image.old) o buffer.old × (accepts (operation_answer (setup_of s.old) o) ≡ true) }
-    ensures { record { told = told_bits accepted result; registers = s.new; flash = flash image.new; buffer = buffer.new } ≡ whole_left s.old (performed (stands_for s.old) (flash image.old) o buffer.old (plan_started (setup_of s.old) o Answer.Accepted)) }
+    ensures { record { told = told_bits accepted result; registers = s.new; flash = flash image.new; buffer = buffer.new } ≡ whole_left s.old (performed (stands_for s.old) (flash image.old) o buffer.old (plan_started (setup_of s.old) o accepted)) }
 {
     if places::is_read(o) {
         read(s, image, o, buffer, o.count);

@@ -1,9 +1,9 @@
 -- `whole::answered` meets its contract. Assumes nothing.
-use Rattle.std.proofs.Common.{◌≡◌, false, sym, ◌∙◌, ap}
-use mathlib.Core.Bool.{or-true}
+use Rattle.std.proofs.Common.{◌≡◌, true, Err, refl, sym, ◌∙◌}
+use mathlib.Core.Path.{subst}
 use Rattle.model.specs.State.{flash}
 use Rattle.model.specs.Kinds.{is_read}
-use Rattle.model.specs.Refusals.{accepts, is_denied_read, number_of}
+use Rattle.model.specs.Refusals.{Answer}
 use Rattle.model.specs.Checks.{operation_answer}
 use Rattle.model.specs.Steps.{starts}
 use Rattle.model.proofs.Bool.{and_left}
@@ -18,12 +18,18 @@ pub started-requires : goal.started-requires
 started-requires c = (c.requires.0, rw (sym c.requires.1 ∙ c.in-Ok.is))
 
 pub returns-in-Ok : goal.returns-in-Ok
-returns-in-Ok c = rw (sym c.requires.1 ∙ c.in-Ok.is, c.in-Ok.is) c.started.ensures
+returns-in-Ok c = rw c.in-Ok.is c.started.ensures
 
 pub recorded-errors-requires : goal.recorded-errors-requires
 unfolding stands_for
-recorded-errors-requires c =
-    record { answered = c.requires.1; pages = pages_bound (stands_for c.args.s.now) (whole_free _ _ c.requires.0.free).fits }
+recorded-errors-requires c = record {
+  answered = sym c.in-Err.is ∙ c.requires.1;
+  pages = pages_bound (stands_for c.args.s.now) (whole_free _ _ c.requires.0.free).fits;
+}
+
+pub readable-readable-requires : goal.readable-readable-requires
+unfolding stands_for
+readable-readable-requires c = sym c.in-Err.is ∙ c.requires.1
 
 pub read-requires : goal.read-requires
 unfolding stands_for
@@ -31,31 +37,29 @@ read-requires c =
     let d = sym c.is_denied_read.ensures ∙ c.if-is_denied_read.true in
     let h = c.requires.0 in
     let at = stands_for c.args.s.now in
-    let goes : starts c.args.o (operation_answer (setup_of c.args.s.now) c.args.o) ≡ true = rw (rw c.requires.1 at d, or-true) in
+    let goes : starts c.args.o (operation_answer (setup_of c.args.s.now) c.args.o) ≡ true =
+    subst (λ (x : Answer). starts c.args.o x ≡ true) (sym c.in-Err.is ∙ c.requires.1) d in
     (placed at _ c.args.o h.free goes, read_room at _ c.args.o h.free c.args.buffer.now h.room goes (and_left (is_read c.args.o) _ d))
 
 pub returns-then-is_denied_read : goal.returns-then-is_denied_read
 unfolding stands_for
 returns-then-is_denied_read c =
     let d = sym c.is_denied_read.ensures ∙ c.if-is_denied_read.true in
-    let no : accepts c.args.answer ≡ false = rw c.in-Err.is in
     let shown = rw d at c.readable-readable.ensures in
     rw (
-      sym c.in-Err.is,
+      c.in-Err.is,
       c.put_errors.ensures,
       c.read.ensures.registers,
       c.read.ensures.buffer,
       c.recorded-errors.ensures,
-      no,
       d,
       and_left (is_read c.args.o) _ d,
       ← shown,
     )
-    (left_denied _ (flash c.args.image.now) c.args.o c.args.buffer.now c.requires.0.encodes c.args.answer c.requires.1 no _ _)
+    (left_denied _ (flash c.args.image.now) c.args.o c.args.buffer.now c.requires.0.encodes (Err c.in-Err.refusal) (sym c.in-Err.is ∙ c.requires.1) refl _ _)
 
-pub returns : goal.returns
-returns c =
-    let no : accepts c.args.answer ≡ false = rw c.in-Err.is in
-    let other : is_denied_read c.args.o (number_of c.args.answer) ≡ false = sym c.is_denied_read.ensures ∙ c.if-is_denied_read.false in
-    rw (sym c.in-Err.is, c.put_errors-2.ensures, c.recorded-errors.ensures, no, other)
-    (left_recorded _ (flash c.args.image.now) c.args.o c.args.buffer.now c.requires.0.encodes c.args.answer c.requires.1 no)
+pub returns-else-is_denied_read : goal.returns-else-is_denied_read
+returns-else-is_denied_read c =
+    let other = sym c.is_denied_read.ensures ∙ c.if-is_denied_read.false in
+    rw (c.in-Err.is, c.put_errors-in-Err.ensures, c.recorded-errors.ensures, other)
+    (left_recorded _ (flash c.args.image.now) c.args.o c.args.buffer.now c.requires.0.encodes (Err c.in-Err.refusal) (sym c.in-Err.is ∙ c.requires.1) refl)
