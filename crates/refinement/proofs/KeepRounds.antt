@@ -19,7 +19,7 @@ use Rattle.model.proofs.Rounds.{Goes, goes_accepted, competes_goes, BothAsked, h
 use Rattle.calls.specs.Calls.{tells_movement}
 use Rattle.calls.proofs.Movements.{step_tells}
 use Rattle.refinement.proofs.KeepBytes.{Bytes, step_bytes}
-use Rattle.plans.proofs.Told.{accepts_told}
+use Rattle.model.proofs.Answers.{accepts_told}
 
 module _ (c : Controller) (f : Flash) where
   -- Whether a round tells a movement.

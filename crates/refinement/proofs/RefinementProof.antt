@@ -34,7 +34,7 @@ use Rattle.calls.specs.Calls.{set_inputs_in, set_region_in, set_default_in, set_
 use Rattle.refinement.specs.Refinement.{RefinesOn, Refines}
 use Rattle.refinement.proofs.KeepBytes.{Bytes, start_bytes, step_bytes}
 use Rattle.refinement.proofs.KeepRounds.{round_silent, round_taken, round_bytes}
-use Rattle.plans.proofs.Told.{told_accepts}
+use Rattle.model.proofs.Answers.{told_accepts}
 
 -- The model's call on what the registers stand for: what it answers, and the controller that it leaves.
 abbrev before : List ℕ → Flash → State
