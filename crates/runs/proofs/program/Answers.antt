@@ -16,7 +16,7 @@ pub overflow_add-bits : goal.overflow_add-bits
 overflow_add-bits c = omega (arith, c.loop-i.invariant.size, c.loop-i.invariant.all.few, c.changed_bits-bits.ensures.1)
 
 pub loop-i-preserved : goal.loop-i-preserved
-loop-i-preserved c = 
+loop-i-preserved c =
     let b = c.args.buffer.now in
     let n = c.loop-i.i in
     let word : get_or (take ((c.args.from + c.args.count) - c.args.from) (drop c.args.from b)) n 0 ≡ get_or b (c.args.from + n) 0 =
