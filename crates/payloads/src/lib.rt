@@ -23,16 +23,17 @@ pub fn groups_of(v: u32) -> ArrayVec<u8, 4>
     groups
 }
 
-// A scan that is to be written.
+// A scan that is to be written: its serial and length are in range.
 #[derive(Clone, Copy)]
 pub struct Scan<'a> {
     pub serial: u32,
     pub bytes: &'a [u8],
+    ghost low: { serial < 268435456 },
+    ghost short: { length bytes.now ≤ 48 },
 }
 
 // The 56 bytes: the serial's groups, the length, the scan's bytes, and ones to the end.
 fn laid_bytes(scan: Scan) -> [u8; PAYLOAD_BYTES]
-    requires { (scan.serial < 268435456) × (length scan.bytes.now ≤ 48) }
     ensures { result ≡ written (record { serial = scan.entry.serial; bytes = scan.entry.bytes.now }) }
 {
     let bytes = scan.bytes;
@@ -48,7 +49,6 @@ fn laid_bytes(scan: Scan) -> [u8; PAYLOAD_BYTES]
 
 // Words 2 to 15 of a slot that holds this scan.
 pub fn payload_words(scan: Scan) -> [u32; 14]
-    requires { (scan.serial < 268435456) × (length scan.bytes.now ≤ 48) }
     ensures { result ≡ words_of (written (record { serial = scan.entry.serial; bytes = scan.entry.bytes.now })) }
 {
     let laid = laid_bytes(scan);

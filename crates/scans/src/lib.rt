@@ -84,7 +84,7 @@ fn put(
     scan: Scan,
     steps: u32,
 ) -> Option<u32>
-    requires { (p + 16 ≤ 137728) × (scan.serial < 268435456) × (length scan.bytes.now ≤ 48) }
+    requires { p + 16 ≤ 137728 }
     ensures { record { told = result; registers = s.new; flash = flash image.new } ≡ jobs_in steps s.old (flash image.old) (fill_job d p (scan_with scan.entry.serial scan.entry.bytes.now) ∷ zero_job d p ∷ []) }
 {
     let mut words = payloads::payload_words(scan);
@@ -107,7 +107,7 @@ fn erase_and_put(
     scan: Scan,
     steps: u32,
 ) -> Option<u32>
-    requires { (q + 16 ≤ 137728) × (scan.serial < 268435456) × (length scan.bytes.now ≤ 48) }
+    requires { q + 16 ≤ 137728 }
     ensures { record { told = result; registers = s.new; flash = flash image.new } ≡ jobs_in steps s.old (flash image.old) (erase_job d q ∷ fill_job d q (scan_with scan.entry.serial scan.entry.bytes.now) ∷ zero_job d q ∷ []) }
 {
     let left = run(s, image, operation(PAGE_ERASE, d, q, 0), &mut [0], steps)?;
