@@ -6,4 +6,4 @@ use Rattle.inputs.proofs.Configured.{clear_accepted}
 use Rattle.inputs.proofs.clear.Goals as goal
 
 pub returns : goal.returns
-returns c = rw (c.put_errors.ensures, c.no_errors.ensures) (clear_accepted _ (sym c.valid.ensures ∙ not-false _ (passed _ _ (sym c.check.ensures ∙ c.in_ok-check.was))))
+returns c = rw (c.put_errors.ensures, c.no_errors.ensures) (clear_accepted _ (sym c.valid-invalid.ensures ∙ not-false _ (passed _ _ (sym c.check.ensures ∙ c.in_ok-check.was))))
