@@ -13,7 +13,8 @@ use Rattle.model.specs.Places.{total_words}
 use Rattle.model.specs.State.{Flash}
 use Rattle.model.specs.Refusals.{accepts}
 use Rattle.model.specs.Checks.{operation_answer}
-use Rattle.model.specs.Steps.{starts}
+use Rattle.model.specs.Steps.{start, starts}
+use Rattle.model.proofs.Answers.{told_accepts}
 use Rattle.model.specs.Whole.{whole_answer, short_buffer}
 use Rattle.model.specs.declared.Operation.{Operation}
 use Rattle.model.specs.declared.Controller.{Controller}
@@ -77,7 +78,8 @@ module _ (steps : ℕ) (s : List ℕ) (f : Flash) (o : Operation) (b : List ℕ)
         started =
             let answer : l.told.answer ≡ (start_in s o).told.answer = ap (λ (x : Left ToldAnswer). x.told.answer) is in
             let begins : starts_by o (start_in s o).told.answer ≡ true = subst (λ (x : ℕ). starts_by o x ≡ true) answer go in
-            subst (λ (x : Outcome). starts o x.answer ≡ true) (free_start (decode s) o (whole_free (decode s) f free)) begins
+            let told : starts o (start (decode s) o).answer ≡ true = rw (told_accepts (start (decode s) o).answer) at begins in
+            subst (λ (x : Outcome). starts o x.answer ≡ true) (free_start (decode s) o (whole_free (decode s) f free)) told
 
         pages_same : (decode s).setup.pages ≡ (setup_of s).pages
         unfolding stands_for

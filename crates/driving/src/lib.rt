@@ -48,7 +48,7 @@ fn program_turn(s: &mut Registers, image: &mut [u32], buffer: &[u32], k: usize, 
     ensures { (record { registers = s.new; flash = flash image.new; buffer = buffer.now; bits = result } ≡ stepped_in (with_pushed_in k (record { registers = s.old; flash = flash image.old; buffer = buffer.now; bits = bits }))) × (result ≤ bits + 32) }
 {
     let word = buffer[k];
-    queueing::push(s, word);
+    let _ = queueing::push(s, word);
     stepped(s, image, bits)
 }
 

@@ -16,7 +16,7 @@ use Rattle.expansions.proofs.Turns.{one_turn, copies_empty, Turning, turning_one
 -- ---- a block
 
 module _ (s : List ℕ) (at d : ℕ) (before : List ℕ) (room : Room (block_at s at d) (length before))
-    (tag : Parsed) (is : tag ≡ number_at s at) (v x : ℕ) (tag_value : v ≡ value_of tag) (tag_next : x ≡ next_of tag) where
+    {tag : Parsed} (is : tag ≡ number_at s at) {v x : ℕ} (tag_value : v ≡ value_of tag) (tag_next : x ≡ next_of tag) where
   value : v ≡ value_of (number_at s at)
   value = tag_value ∙ ap value_of is
 
@@ -41,7 +41,7 @@ module _ (s : List ℕ) (at d : ℕ) (before : List ℕ) (room : Room (block_at 
     pub first_room : Room (entry_at s at x v d) (length before)
     first_room = split.first
 
-    module _ (places : List ℕ) (y : ℕ) (laid : places ≡ before ++ places_of (entry_at s at x v d)) (end : y ≡ end_of (entry_at s at x v d)) where
+    module _ {places : List ℕ} {y : ℕ} (laid : places ≡ before ++ places_of (entry_at s at x v d)) (end : y ≡ end_of (entry_at s at x v d)) where
       pub rest_room : Room (block_at s y d) (length places) × (at < y)
       rest_room =
           let h = entry_onward s at x v d (length before) first_room in
@@ -58,7 +58,7 @@ module _ (s : List ℕ) (at d : ℕ) (before : List ℕ) (room : Room (block_at 
 -- ---- an entry that runs once
 
 module _ (s : List ℕ) (at next tag d : ℕ) (before : List ℕ) (room : Room (entry_at s at next tag d) (length before)) (other : tag ≡ 2 → ⊥)
-    (x : Parsed) (last : x ≡ cond (eqb tag 1) (stated_at s next).end (number_to s 7 next)) where
+    {x : Parsed} (last : x ≡ cond (eqb tag 1) (stated_at s next).end (number_to s 7 next)) where
   pub once_room : length before < 4096
   once_room = (once_laid s at next tag d (length before) room other x last).0
 
@@ -69,7 +69,7 @@ module _ (s : List ℕ) (at next tag d : ℕ) (before : List ℕ) (room : Room (
 -- ---- a repeat
 
 module _ (s : List ℕ) (at next tag d : ℕ) (before : List ℕ) (room : Room (entry_at s at next tag d) (length before)) (two : tag ≡ 2)
-    (times : Parsed) (is : times ≡ number_to s 255 next) (k y : ℕ) (times_value : k ≡ value_of times) (times_next : y ≡ next_of times) where
+    {times : Parsed} (is : times ≡ number_to s 255 next) {k y : ℕ} (times_value : k ≡ value_of times) (times_next : y ≡ next_of times) where
   count : k ≡ value_of (number_to s 255 next)
   count = times_value ∙ ap value_of is
 

@@ -7,7 +7,7 @@ use lib.Dec.{eqb}
 use borrow.Author.Tests.{eqb-true, ne_eqb}
 use Rattle.model.specs.State.{is_ready}
 use Rattle.model.specs.Rights.{denied, decider_of}
-use Rattle.model.specs.Refusals.{number_of, no_decider, reported, accepts, is_denied, check, or_else, ready_answer}
+use Rattle.model.specs.Refusals.{refusal_number, number_of, no_decider, reported, accepts, is_denied, check, or_else, ready_answer}
 use Rattle.model.specs.Checks.{malformed, out_of_range, crosses_window, operation_answer}
 use Rattle.model.specs.Errors.{is_recorded}
 use Rattle.model.specs.Refusals.{Answer}
@@ -20,6 +20,20 @@ use Rattle.model.specs.declared.Phase.TheVariants as phase
 use Rattle.model.specs.declared.Operation.{Operation}
 use Rattle.model.specs.declared.Setup.{Setup}
 use Rattle.model.proofs.Bool.{by_test}
+
+-- No refusal has the number 0,
+pub refusal_numbered : (r : Refusal) → eqb (refusal_number r) 0 ≡ false
+refusal_numbered (Denied by) = refl
+refusal_numbered r = refl
+
+-- so that an answer has it just where it accepts:
+pub told_accepts : (a : Answer) → eqb (number_of a) 0 ≡ accepts a
+told_accepts (Ok done) = refl
+told_accepts (Err r) = refusal_numbered r
+
+-- told 0, it accepts.
+pub accepts_told : (a : Answer) → number_of a ≡ 0 → accepts a ≡ true
+accepts_told a h = sym (told_accepts a) ∙ rw h
 
 -- A refusal does not accept.
 pub accepts_not : (a : Answer) → (number_of a ≡ 0 → ⊥) → accepts a ≡ false

@@ -141,9 +141,9 @@ too_long s at end e h l =
 
 -- ---- what the number at a place is, by where its last group stands
 
-pub ends_short : (s : List ℕ) (at end : ℕ) → end ≡ last_group s at → length s ≤ end → Err (length s) ≡ number_at s at
+pub ends_short : (s : List ℕ) (at : ℕ) → length s ≤ last_group s at → Err (length s) ≡ number_at s at
 unfolding number_at number_between
-ends_short s at end e h = rw (← e, le-leb _ _ h) refl
+ends_short s at h = rw (le-leb _ _ h) refl
 
 pub ends_long : (s : List ℕ) (at end : ℕ) → end ≡ last_group s at → end < length s → at + 4 < end → Err at ≡ number_at s at
 unfolding number_at
@@ -163,9 +163,11 @@ pub ends_badly : (s : List ℕ) (at end v : ℕ) → end ≡ last_group s at →
 unfolding number_at number_between shortest
 ends_badly s at end v e h w t = rw (← e, lt-leb _ _ h, ← w, t) refl
 
+pub ruleset number_ways = (last_after, ends_short, ends_long, ends_well, ends_badly)
+
 -- Past the end there is none.
 pub number_none : (s : List ℕ) (at : ℕ) → length s ≤ at → number_at s at ≡ Err (length s)
-number_none s at h = sym (ends_short s at at (sym (last_none s at h)) h)
+number_none s at h = sym (ends_short s at (rw (last_none s at h) h))
 
 -- ---- one number more, at the front and at the end
 

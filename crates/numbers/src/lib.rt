@@ -30,10 +30,12 @@ fn last_group(s: &[u8], at: usize) -> usize
 }
 
 // The value of `k` groups. A shortest form of more than five is too large in any case.
-#[tactic(auto, unfolding(crate::specs::Number::groups_value))]
+#[tactic(auto, using(crate::proofs::Laws::value_step), unfolding(crate::specs::Number::groups_value))]
 fn groups_value(s: &[u8], at: usize, k: usize) -> u64
-    requires { (at + k ≤ length s.now) × (k ≤ 5) }
-    ensures { (result ≡ groups_value s.now at k) × (result < 34359738368) }
+    requires within { at + k ≤ length s.now }
+    requires few { k ≤ 5 }
+    ensures value { result ≡ groups_value s.now at k }
+    ensures small { result < 34359738368 }
 {
     if k == 0 {
         return 0;
@@ -43,6 +45,7 @@ fn groups_value(s: &[u8], at: usize, k: usize) -> u64
 }
 
 // The number at `at`.
+#[tactic(auto, using(crate::proofs::Laws::number_ways))]
 pub fn number(s: &[u8], at: usize) -> Parsed
     ensures { result ≡ number_at s.now at }
 {

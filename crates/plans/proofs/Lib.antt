@@ -1,6 +1,5 @@
 -- Laws of whole operations in closed form, of any driver, and of a limit on steps.
 
-pub mod Told
 pub mod Holding
 pub mod Running
 pub mod Firsts

@@ -19,6 +19,7 @@ use Rattle.model.proofs.Rounds.{Goes, goes_accepted, competes_goes, BothAsked, h
 use Rattle.calls.specs.Calls.{tells_movement}
 use Rattle.calls.proofs.Movements.{step_tells}
 use Rattle.refinement.proofs.KeepBytes.{Bytes, step_bytes}
+use Rattle.model.proofs.Answers.{accepts_told}
 
 module _ (c : Controller) (f : Flash) where
   -- Whether a round tells a movement.
@@ -31,7 +32,7 @@ module _ (c : Controller) (f : Flash) where
   -- ---- where it tells none, the controller is as it was
 
   step_silent : tells_movement (step c f).result.movement ≡ false → (step c f).result.controller ≡ c
-  step_silent h = rw (step_refused c f (λ z. true≢false (sym (rw z at (step_tells c f)) ∙ h)))
+  step_silent h = rw (step_refused c f (λ z. true≢false (sym (step_tells c f ∙ accepts_told (step c f).result.answer z) ∙ h)))
 
   both_silent : {a : ByteAddress} → BothAsked c f a → tells (Some a) true ≡ false → (round c f (Some a) true).result.controller ≡ c
   unfolding host_read

@@ -9,6 +9,7 @@ use lib.ListN.{length}
 use Rattle.model.specs.Geometry.{pages_fit}
 use Rattle.model.specs.State.{Flash, flash}
 use Rattle.model.specs.Errors.{is_recorded, clear}
+use Rattle.model.specs.Refusals.{Answer, number_of, accepts}
 use Rattle.model.specs.Settings.{configured, set_inputs, set_region, set_default, set_info, set_erase}
 use Rattle.model.specs.Lifecycle.{reset, initialise_answer, initialise, rma_answer, rma}
 use Rattle.model.specs.Steps.{start_answer, start, push, pop_answer, pop, step}
@@ -29,10 +30,11 @@ use Rattle.registers.specs.Registers.{decode, hand_back}
 use Rattle.registers.proofs.There.{Shaped, handed_back, stands_shaped}
 use Rattle.registers.proofs.Cleared.{decode_cleared}
 use Rattle.validity.proofs.Taken.{taken_stands}
-use Rattle.calls.specs.Calls.{set_inputs_in, set_region_in, set_default_in, set_info_in, set_erase_in, clear_in, push_in, pop_in, initialise_in, step_in, rma_in, reset_in, start_in, whole_in, round_in, tells_movement}
+use Rattle.calls.specs.Calls.{set_inputs_in, set_region_in, set_default_in, set_info_in, set_erase_in, clear_in, push_in, pop_in, initialise_in, step_in, rma_in, reset_in, start_in, whole_in, round_in, tells_movement, changes}
 use Rattle.refinement.specs.Refinement.{RefinesOn, Refines}
 use Rattle.refinement.proofs.KeepBytes.{Bytes, start_bytes, step_bytes}
 use Rattle.refinement.proofs.KeepRounds.{round_silent, round_taken, round_bytes}
+use Rattle.model.proofs.Answers.{told_accepts}
 
 -- The model's call on what the registers stand for: what it answers, and the controller that it leaves.
 abbrev before : List ℕ → Flash → State
@@ -79,18 +81,25 @@ module _ (s : List ℕ) (long : length s ≡ 137) (f : Flash) (k : Call) where
       (λ e. (left_shaped (taken e) (keeps e)).1)
       (λ e. sym ((refused_moves_nothing (before s f) k (refused e)).controller ∙ same (answered s f k) e))
 
-  -- Most calls change the registers where they are accepted,
-  plain : (valid (decode s) ≡ false → answered s f k ≡ 1) → ((n : ℕ) → left_by (decode s) k n ≡ decode s)
-      → (eqb (answered s f k) 0 ≡ true → Bytes (decode s).progress → Bytes (left s f k).progress)
-      → decode (hand_back (eqb (answered s f k) 0) s (left s f k)) ≡ left s f k
-  plain refuses same = refined (λ n. eqb n 0) refl refl refuses (λ n e. same n)
+  module _ (a : Answer) (told : answered s f k ≡ number_of a) (refuses : valid (decode s) ≡ false → answered s f k ≡ 1) where
+    accepted : eqb (answered s f k) 0 ≡ accepts a
+    accepted = rw told (told_accepts a)
 
-  -- and two where a refusal is recorded too.
-  recording : (valid (decode s) ≡ false → answered s f k ≡ 1) → ((n : ℕ) → is_recorded n ≡ false → left_by (decode s) k n ≡ decode s)
-      → (Bytes (decode s).progress → Bytes (left s f k).progress)
-      → decode (hand_back (eqb (answered s f k) 0 || is_recorded (answered s f k)) s (left s f k)) ≡ left s f k
-  recording refuses same keeps =
-      refined (λ n. eqb n 0 || is_recorded n) refl refl refuses (λ n e. same n (or_right (eqb n 0) (is_recorded n) e)) (λ e. keeps)
+    -- Most calls change the registers where they are accepted,
+    plain : ((n : ℕ) → left_by (decode s) k n ≡ decode s) → (accepts a ≡ true → Bytes (decode s).progress → Bytes (left s f k).progress)
+        → decode (hand_back (accepts a) s (left s f k)) ≡ left s f k
+    plain same keeps =
+        subst (λ (b : Bool). decode (hand_back b s (left s f k)) ≡ left s f k) accepted
+        (refined (λ n. eqb n 0) refl refl refuses (λ n e. same n) (λ e. keeps (sym accepted ∙ e)))
+
+    -- and two where a refusal is recorded too.
+    recording : ((n : ℕ) → is_recorded n ≡ false → left_by (decode s) k n ≡ decode s)
+        → (Bytes (decode s).progress → Bytes (left s f k).progress) → decode (hand_back (changes a) s (left s f k)) ≡ left s f k
+    recording same keeps =
+        let changed : eqb (answered s f k) 0 || is_recorded (answered s f k) ≡ changes a =
+        ap (λ (b : Bool). b || is_recorded (answered s f k)) accepted ∙ ap (λ (n : ℕ). accepts a || is_recorded n) told in
+        subst (λ (b : Bool). decode (hand_back b s (left s f k)) ≡ left s f k) changed
+        (refined (λ n. eqb n 0 || is_recorded n) refl refl refuses (λ n e. same n (or_right (eqb n 0) (is_recorded n) e)) (λ e. keeps))
 
 -- A round changes the registers where its step tells a movement.
 round_refined : (s : List ℕ) → length s ≡ 137 → (f : Flash) (h : HostRequest) (b : Bool)
@@ -111,22 +120,22 @@ refines_on : (s : List ℕ) → length s ≡ register_count → RefinesOn s
 unfolding perform valid_with configured reset_in reset initialise_in initialise initialise_answer rma_in rma rma_answer set_inputs_in set_inputs set_region_in set_region set_default_in set_default set_info_in set_info set_erase_in set_erase start_in start start_answer step_in step push_in push pop_in pop pop_answer whole_in whole whole_answer clear_in clear
 refines_on s long = record {
   resets = λ d. by_test (pages_fit d) (λ e. rw e (decode_cleared s d long)) (λ e. rw e);
-  initialises = λ f. plain s long f Initialise (λ v. rw v) (λ n. refl) (λ e b. rw e b);
-  wipes = λ f. plain s long f Rma (λ v. rw v) (λ n. refl) (λ e b. rw e b);
-  inputs = λ i. plain s long no_flash (SetInputs i) (λ v. rw v) (λ n. refl) (λ e b. rw e b);
-  region = λ i g. plain s long no_flash (SetRegion i g) (λ v. rw v) (λ n. refl) (λ e b. rw e b);
-  default = λ r. plain s long no_flash (SetDefault r) (λ v. rw v) (λ n. refl) (λ e b. rw e b);
-  info = λ bank t page p. plain s long no_flash (SetInfo bank t page p) (λ v. rw v) (λ n. refl) (λ e b. rw e b);
-  erase = λ bank on. plain s long no_flash (SetErase bank on) (λ v. rw v) (λ n. refl) (λ e b. rw e b);
-  starts = λ o small. recording s long no_flash (Start o) (λ v. rw v) (start_unrecorded (decode s) o) (start_bytes (decode s) o (omega arith));
-  steps = λ f. plain s long f Step (λ v. rw v) (λ n. refl) (λ e. step_bytes (decode s) f);
-  pushes = λ w. plain s long no_flash (Push w) (λ v. rw v) (λ n. refl) (λ e b. rw e b);
-  pops = plain s long no_flash Pop (λ v. rw v) (λ n. refl) (λ e b. rw e b);
+  initialises = λ f. plain s long f Initialise _ refl (λ v. rw v) (λ n. refl) (λ e b. rw e b);
+  wipes = λ f. plain s long f Rma _ refl (λ v. rw v) (λ n. refl) (λ e b. rw e b);
+  inputs = λ i. plain s long no_flash (SetInputs i) _ refl (λ v. rw v) (λ n. refl) (λ e b. rw e b);
+  region = λ i g. plain s long no_flash (SetRegion i g) _ refl (λ v. rw v) (λ n. refl) (λ e b. rw e b);
+  default = λ r. plain s long no_flash (SetDefault r) _ refl (λ v. rw v) (λ n. refl) (λ e b. rw e b);
+  info = λ bank t page p. plain s long no_flash (SetInfo bank t page p) _ refl (λ v. rw v) (λ n. refl) (λ e b. rw e b);
+  erase = λ bank on. plain s long no_flash (SetErase bank on) _ refl (λ v. rw v) (λ n. refl) (λ e b. rw e b);
+  starts = λ o small. recording s long no_flash (Start o) _ refl (λ v. rw v) (start_unrecorded (decode s) o) (start_bytes (decode s) o (omega arith));
+  steps = λ f. plain s long f Step _ refl (λ v. rw v) (λ n. refl) (λ e. step_bytes (decode s) f);
+  pushes = λ w. plain s long no_flash (Push w) _ refl (λ v. rw v) (λ n. refl) (λ e b. rw e b);
+  pops = plain s long no_flash Pop _ refl (λ v. rw v) (λ n. refl) (λ e b. rw e b);
   rounds = round_refined s long;
   completes = λ f o buffer.
-      recording s long f (Whole o buffer) (λ v. rw v) (λ n e. whole_unrecorded (decode s) o n e buffer)
+      recording s long f (Whole o buffer) _ refl (λ v. rw v) (λ n e. whole_unrecorded (decode s) o n e buffer)
       (λ b. rw (whole_leaves (decode s) f o buffer).0 b);
-  clears = plain s long no_flash Clear (λ v. rw v) (λ n. refl) (λ e b. rw e b);
+  clears = plain s long no_flash Clear _ refl (λ v. rw v) (λ n. refl) (λ e b. rw e b);
 }
 
 pub refines : Refines

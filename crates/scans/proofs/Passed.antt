@@ -23,7 +23,7 @@ use Rattle.scan_queue.specs.Slots.{Pages, Entry}
 use Rattle.scan_queue.specs.Decisions.{Decision, refusal_of}
 use Rattle.scan_pages.specs.Pages.{page_word, lower, higher, pages_serve, pages_answer}
 use Rattle.scan_pages.proofs.Places.{low_page, high_page}
-use Rattle.scan_pages.proofs.Answering.{refused_numbered}
+use Rattle.model.proofs.Answers.{told_accepts}
 use Rattle.scans.specs.Jobs.{zero_job, jobs, jobs_in}
 use Rattle.scans.specs.Scans.{write_told, write_refused, write_done, writing, write_in, no_scan, scan_of, mark_told, take_done, waiting, take_in}
 use Rattle.scans.specs.declared.ToldScan.{ToldScan}
@@ -38,7 +38,7 @@ module _ (s : List ℕ) (f : Flash) (a b : ℕ) (first : ℕ) (is : first ≡ pa
         ⊎_elim (λ e. e)
         (λ (no : accepts (whole_answer (decode s) f) ≡ false).
         let n : number_of (whole_answer (decode s) f) ≡ 0 = (rw no at (sym is)) ∙ ok in
-        absurd (eqb-false (number_of (whole_answer (decode s) f)) 0 (refused_numbered _ no) n))
+        absurd (eqb-false (number_of (whole_answer (decode s) f)) 0 (told_accepts _ ∙ no) n))
         (which (accepts (whole_answer (decode s) f)))
 
     pub served : pages_serve (decode s).setup a b ≡ true

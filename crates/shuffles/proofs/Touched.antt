@@ -28,7 +28,7 @@ use Rattle.model.specs.Refusals.{Answer}
 use Rattle.model.proofs.Bool.{and_left, and_right, by_test}
 use Rattle.model.proofs.Answers.{accepts_not, unrecorded_undenied, denied_if_told}
 use Rattle.model.proofs.DeniedReads.{readable_before, readable_le}
-use Rattle.plans.proofs.Told.{accepts_told}
+use Rattle.model.proofs.Answers.{accepts_told}
 use Rattle.plans.specs.Plan.{Plan, Refused, Recorded, Reads, Programs, Erases, places_from, places_of, true_places, plan_started, plan_of, performed}
 use Rattle.plans.proofs.Firsts.{true_first, true_all}
 use Rattle.plans.proofs.Cases.{PlanCase, refuses, records, begins, plan_case}
