@@ -38,7 +38,7 @@ fn none_waits(image: &[u32], q: usize) -> bool
 
 // The lower page in which no scan waits.
 fn page_to_erase(image: &[u32], a: usize, b: usize) -> Option<usize>
-    requires { Pages image.now a b }
+    requires { (a + 256 ≤ length image.now) × (b + 256 ≤ length image.now) }
     ensures { result ≡ cond (none_waits image.now (slots_from 16 a)) (Some a) (cond (none_waits image.now (slots_from 16 b)) (Some b) None) }
 {
     if none_waits(image, a) {
