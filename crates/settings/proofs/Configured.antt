@@ -1,7 +1,8 @@
 -- What each setting leaves, by the tests that it makes. Assumes nothing.
-use Prim.Native.Nat.{ℕ, zero, suc, ◌<◌}
+use Rattle.std.specs.Prelude.{Err}
+use Prim.Native.Nat.{ℕ, zero, suc, ◌<◌, ◌≤◌}
 use native.Mathlib.Omega.{arith}
-use mathlib.Core.Path.{◌≡◌}
+use mathlib.Core.Path.{◌≡◌, refl}
 use mathlib.Core.Bool.{Bool, true, ◌&&◌}
 use mathlib.Core.List.{List}
 use lib.Dec.{ltb}
@@ -12,7 +13,8 @@ use Rattle.model.specs.Valid.{rights_fit, region_fits, page_fits}
 use Rattle.model.specs.Settings.{setting_answer, configured, with_region, set_region, with_default, set_default, with_page, info_exists, set_info, with_erase, set_erase}
 use Rattle.model.specs.declared.Region.{Region}
 use Rattle.model.specs.declared.PageSetting.{PageSetting}
-use Rattle.model.specs.Refusals.{Answer}
+use Rattle.model.specs.Refusals.{Answer, refusal_number, accepted}
+use Rattle.model.specs.declared.Refusal.{Refusal}
 use Rattle.registers.specs.Layout.{pages_at, default_at}
 use Rattle.registers.specs.Registers.{stands_for, decode, put_region, put_setting, put_erase}
 use Rattle.calls.specs.Calls.{set_region_in, set_default_in, set_info_in, set_erase_in}
@@ -59,3 +61,42 @@ unfolding set_erase_in set_erase configured
 erase_set s bank on a told =
     setting s (λ c. with_settings c (with_erase c.setup.settings bank on)) (λ c. ltb bank 2) a told (put_erase s bank on)
     (λ f h. put_bank s h bank on (ltb-true _ _ f))
+
+-- ---- by the answer of the checks: a refusal leaves the registers, and what is accepted is written
+
+module _ (s : List ℕ) (i : ℕ) (g : Region) (a : Answer) (told : a ≡ setting_answer (decode s) (ltb i 8 && region_fits (get_or s pages_at 0) g)) where
+  pub region_refused : {e : Refusal} → a ≡ Err e → record { told = refusal_number e; registers = s } ≡ set_region_in s i g
+  region_refused w = (region_set s i g a told).refused w
+
+  pub region_exists : a ≡ accepted → i < 8
+  region_exists w = ltb-true _ _ (and_left _ _ ((region_set s i g a told).passed w))
+
+  pub region_kept : a ≡ accepted → record { told = 0; registers = put_region s i g } ≡ set_region_in s i g
+  region_kept w = (region_set s i g a told).kept refl w
+
+module _ (s : List ℕ) (r : ℕ) (a : Answer) (told : a ≡ setting_answer (decode s) (rights_fit r)) where
+  pub default_refused : {e : Refusal} → a ≡ Err e → record { told = refusal_number e; registers = s } ≡ set_default_in s r
+  default_refused w = (default_set s r a told).refused w
+
+  pub default_kept : a ≡ accepted → record { told = 0; registers = set s default_at r } ≡ set_default_in s r
+  default_kept w = (default_set s r a told).kept refl w
+
+module _ (s : List ℕ) (bank t page : ℕ) (p : PageSetting) (a : Answer) (told : a ≡ setting_answer (decode s) (info_exists bank t page && page_fits p)) where
+  pub info_refused : {e : Refusal} → a ≡ Err e → record { told = refusal_number e; registers = s } ≡ set_info_in s bank t page p
+  info_refused w = (info_set s bank t page p a told).refused w
+
+  pub info_below : a ≡ accepted → info_index bank t page < 26
+  info_below w = page_exists bank t page (and_left _ _ ((info_set s bank t page p a told).passed w))
+
+  pub info_kept : a ≡ accepted → record { told = 0; registers = put_setting s (info_index bank t page) p } ≡ set_info_in s bank t page p
+  info_kept w = (info_set s bank t page p a told).kept refl w
+
+module _ (s : List ℕ) (bank : ℕ) (on : Bool) (a : Answer) (told : a ≡ setting_answer (decode s) (ltb bank 2)) where
+  pub erase_refused : {e : Refusal} → a ≡ Err e → record { told = refusal_number e; registers = s } ≡ set_erase_in s bank on
+  erase_refused w = (erase_set s bank on a told).refused w
+
+  pub bank_exists : a ≡ accepted → bank ≤ 1
+  bank_exists w = omega (arith, ltb-true bank 2 ((erase_set s bank on a told).passed w))
+
+  pub erase_kept : a ≡ accepted → record { told = 0; registers = put_erase s bank on } ≡ set_erase_in s bank on
+  erase_kept w = (erase_set s bank on a told).kept refl w

@@ -9,6 +9,7 @@ use model::{Answer, PageSetting, Region};
 use registers::Registers;
 
 // A region, by its number 0 to 7.
+#[tactic(auto, using(crate::proofs::Configured::region_refused, crate::proofs::Configured::region_exists, crate::proofs::Configured::region_kept))]
 pub fn set_region(s: &mut Registers, number: u32, g: Region) -> Answer
     ensures { record { told = number_of result; registers = s.new } ≡ set_region_in s.old number g }
 {
@@ -19,6 +20,7 @@ pub fn set_region(s: &mut Registers, number: u32, g: Region) -> Answer
 }
 
 // The rights of the data pages that no region decides.
+#[tactic(auto, using(crate::proofs::Configured::default_refused, crate::proofs::Configured::default_kept))]
 pub fn set_default(s: &mut Registers, rights: u8) -> Answer
     ensures { record { told = number_of result; registers = s.new } ≡ set_default_in s.old rights }
 {
@@ -28,6 +30,7 @@ pub fn set_default(s: &mut Registers, rights: u8) -> Answer
 }
 
 // An information page, by its bank, its type and its number in the type.
+#[tactic(auto, using(crate::proofs::Configured::info_refused, crate::proofs::Configured::info_below, crate::proofs::Configured::info_kept))]
 pub fn set_info(s: &mut Registers, bank: u32, t: u8, page: u32, p: PageSetting) -> Answer
     ensures { record { told = number_of result; registers = s.new } ≡ set_info_in s.old bank t page p }
 {
@@ -40,6 +43,7 @@ pub fn set_info(s: &mut Registers, bank: u32, t: u8, page: u32, p: PageSetting) 
 }
 
 // A bank's erase permission.
+#[tactic(auto, using(crate::proofs::Configured::erase_refused, crate::proofs::Configured::bank_exists, crate::proofs::Configured::erase_kept))]
 pub fn set_erase(s: &mut Registers, bank: u32, on: bool) -> Answer
     ensures { record { told = number_of result; registers = s.new } ≡ set_erase_in s.old bank on }
 {
