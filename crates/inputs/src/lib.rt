@@ -16,7 +16,8 @@ pub fn setting_answer(s: &Registers, fits: bool) -> Answer
     ensures { result ≡ setting_answer (decode s.now) fits }
 {
     refusals::check(!validity::valid(s), Refusal::Invalid)?;
-    refusals::check(registers::progress(s).is_some(), Refusal::Busy)?;
+    let busy = registers::progress(s).is_some();
+    refusals::check(busy, Refusal::Busy)?;
     refusals::check(!fits, Refusal::BadSetting)
 }
 
@@ -35,9 +36,8 @@ pub fn set_inputs(s: &mut Registers, inputs: Inputs) -> Answer
 pub fn clear(s: &mut Registers) -> Answer
     ensures { record { told = number_of result; registers = s.new } ≡ clear_in s.old }
 {
-    if !validity::valid(s) {
-        return Err(Refusal::Invalid);
-    }
+    let invalid = !validity::valid(s);
+    refusals::check(invalid, Refusal::Invalid)?;
     registers::put_errors(s, refusals::no_errors());
     Ok(())
 }

@@ -68,8 +68,13 @@ fn started(s: &mut Registers, o: Operation, answer: Answer)
 pub fn start(s: &mut Registers, o: Operation) -> Answer
     ensures { record { told = told_answer result; registers = s.new } ≡ start_in s.old o }
 {
-    start_answer(s)?;
-    let told = answers::operation_answer(s, o);
-    started(s, o, told);
-    told
+    let first = start_answer(s);
+    match first {
+        Err(refusal) => Err(refusal),
+        Ok(()) => {
+            let told = answers::operation_answer(s, o);
+            started(s, o, told);
+            told
+        }
+    }
 }

@@ -129,8 +129,7 @@ pub fn phase_answer(p: Phase) -> Answer
 pub fn ready_answer(valid: bool, p: Phase) -> Answer
     ensures { result ≡ ready_answer valid p }
 {
-    check(!valid, Refusal::Invalid)?;
-    phase_answer(p)
+    check(!valid, Refusal::Invalid).and(phase_answer(p))
 }
 
 // ---- the error record

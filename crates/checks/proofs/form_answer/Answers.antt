@@ -11,17 +11,17 @@ unfolding malformed
 returns c =
     let tests : c.match-kind.malformed ≡ malformed c.args.o =
     elim c.match-kind.branch [
-      in-2 w ↦ simp (w.malformed-is, c.unaligned-place.ensures, c.is_information.ensures, c.no_partition-partition.ensures, w.in-2.is, and-true, or-false)
-    | in-3 w ↦ simp (w.malformed-is, c.unaligned-place.ensures, c.no_partition-partition.ensures, w.in-3.is, and-false, or-false)
-    | in-0 w ↦
-      rw (
-        w.malformed-is,
-        c.bad_count-count.ensures,
-        c.unaligned-place.ensures,
-        c.is_information.ensures,
-        c.no_partition-partition.ensures,
-        malformed_moving c.args.o (omega arith),
-      )
-    | in-4-to-255 w ↦ rw (w.malformed-is, malformed_unknown c.args.o (omega arith))
+      | in-2 w ↦ simp (w.malformed-is, c.unaligned-place.ensures, c.is_information.ensures, c.no_partition-partition.ensures, w.in-2.is, and-true, or-false)
+      | in-3 w ↦ simp (w.malformed-is, c.unaligned-place.ensures, c.no_partition-partition.ensures, w.in-3.is, and-false, or-false)
+      | in-0 w ↦
+          rw (
+            w.malformed-is,
+            c.bad_count-count.ensures,
+            c.unaligned-place.ensures,
+            c.is_information.ensures,
+            c.no_partition-partition.ensures,
+            malformed_moving c.args.o (omega arith),
+          )
+      | in-4-to-255 w ↦ rw (w.malformed-is, malformed_unknown c.args.o (omega arith))
     ] in
     rw (c.check.ensures, tests)

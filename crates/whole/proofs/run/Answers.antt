@@ -11,7 +11,7 @@ unfolding stands_for
 answered-requires c =
     let a = c.args in (
       admitted a.s.now (flash a.image.now) a.o a.buffer.now (rw (sym c.whole_answer.ensures ∙ c.in_ok-whole_answer.was))
-      (sym c.short_buffer.ensures ∙ passed _ _ (sym c.check.ensures ∙ c.in_ok-check.was)),
+          (sym c.short_buffer.ensures ∙ passed _ _ (sym c.check.ensures ∙ c.in_ok-check.was)),
       c.operation_answer-answer.ensures,
     )
 
