@@ -9,6 +9,7 @@ use Rattle.model.specs.Kinds.{is_read, is_program}
 use Rattle.model.specs.Places.{total_words}
 use Rattle.model.specs.State.{Flash}
 use Rattle.model.specs.Refusals.{accepts}
+use Rattle.model.proofs.Answers.{told_accepts}
 use Rattle.model.specs.Steps.{starts, start}
 use Rattle.model.specs.Whole.{Run, WholeLeaves, stepped, with_pushed, with_popped, turn, turns, whole_answer, short_buffer}
 use Rattle.model.specs.declared.Operation.{Operation}
@@ -102,14 +103,14 @@ module _ (n : ℕ) (s : List ℕ) (f : Flash) (o : Operation) (b : List ℕ) (l 
       let same : standing (turns_in o (min n (total_words d o)) r)
       ≡ turns o (min n (total_words e o)) (record { controller = (start (decode s) o).controller; flash = f; buffer = b; bits = 0 })
       = a.same ∙ rw (begun, q) refl in
-      rw go (record {
+      rw (told_accepts (start (decode s) o).answer, go) (record {
         controller = ap (λ (t : Run). t.controller) same;
         flash = ap (λ (t : Run). t.flash) same;
         buffer = ap (λ (t : Run). t.buffer) same;
         long = a.long;
       }))
       (λ (stop : starts o (start (decode s) o).answer ≡ false).
-      rw stop (record { controller = begun; flash = refl; buffer = refl; long = long_start s o l }))
+      rw (told_accepts (start (decode s) o).answer, stop) (record { controller = begun; flash = refl; buffer = refl; long = long_start s o l }))
       (which (starts o (start (decode s) o).answer))
 
   pub drives_as : DrivesAs (driven_in n s f o b) (driven n (decode s) f o b)
