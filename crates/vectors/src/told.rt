@@ -31,6 +31,10 @@ impl Answered {
             decider: decider_of(decider),
         }
     }
+
+    pub fn is_accepted(self) -> bool {
+        self.number == 0
+    }
 }
 
 impl From<Answer> for Answered {
@@ -117,7 +121,10 @@ impl fmt::Display for Stepped {
                 };
                 write!(f, "0, {movement}, {} bits", step.bits)
             }
-            Err(refusal) => write!(f, "{}, none, 0 bits", Answered::from(Err(refusal))),
+            Err(refusal) => {
+                let answer: Answer = Err(refusal);
+                write!(f, "{}, none, 0 bits", Answered::from(answer))
+            }
         }
     }
 }
