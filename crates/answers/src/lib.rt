@@ -20,8 +20,8 @@ pub fn operation_answer(s: &Registers, o: Operation) -> Answer
 {
     let d = registers::pages(s);
     checks::form_answer(o)?;
-    refusals::check(checks::out_of_range(d, o), Refusal::OutOfRange)?;
-    refusals::check(checks::crosses_window(o), Refusal::CrossesWindow)?;
+    refusals::check(checks::out_of_range(d, o), Err(Refusal::OutOfRange))?;
+    refusals::check(checks::crosses_window(o), Err(Refusal::CrossesWindow))?;
     spans::right_answer(s, o)
 }
 

@@ -380,7 +380,7 @@ impl From<Side<Result<Step, Refusal>>> for ToldStepTurn {
             Side::Unasked => ToldStepTurn {
                 turn: 0,
                 answer: 0,
-                movement: movement_number(None),
+                movement: 0,
                 bits: 0,
             },
             Side::Waiting => ToldStepTurn {

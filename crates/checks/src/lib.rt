@@ -30,7 +30,7 @@ fn bad_count(o: Operation) -> bool
 
 // Check 5: a kind from 4 on is no kind.
 pub fn form_answer(o: Operation) -> Answer
-    ensures { result ≡ check (malformed o) Refusal.Malformed }
+    ensures { result ≡ check (malformed o) (Err Refusal.Malformed) }
 {
     let address = o.address;
     let partition = no_partition(o);
@@ -38,13 +38,13 @@ pub fn form_answer(o: Operation) -> Answer
     let place = unaligned(address);
     let count = bad_count(o);
     let kind = o.kind;
-    let malformed = match kind {
-        0 | 1 => partition | (typed | (place | count)),
-        2 => partition | (typed | place),
-        3 => partition | place,
-        4..=255 => true,
-    };
-    refusals::check(malformed, Refusal::Malformed)
+    let malformed = Err(Refusal::Malformed);
+    match kind {
+        0 | 1 => refusals::check(partition | (typed | (place | count)), malformed),
+        2 => refusals::check(partition | (typed | place), malformed),
+        3 => refusals::check(partition | place, malformed),
+        4..=255 => refusals::check(true, malformed),
+    }
 }
 
 // Whether an address lies at or past the end of the data pages.

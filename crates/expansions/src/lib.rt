@@ -1,59 +1,23 @@
 // The expansion of a bench sheet: where the tags of the entries stand that it runs, in order, each repeat as often as it says.
 #![tactic(auto)]
 
-ghost use Rattle.std.specs.Prelude.{◌≡◌, ◌<◌, ◌≤◌, ℕ, List, [], ◌∷◌, ◌++◌, cond, eqb, length, take};
+ghost use Rattle.std.specs.Prelude.{◌≡◌, cond, eqb};
+ghost use Rattle.std.proofs.lemmas.List.Edits.{sets};
 ghost use Rattle.numbers.specs.Number.{number_to};
 ghost use Rattle.sheets.specs.Sheet.{stated_at, block_at, entry_at, places_of};
-ghost use Rattle.expansions.specs.Laying.{Room, end_of};
+ghost use Rattle.expansions.specs.Laying.{Room, laid_by};
 
 use numbers::{Parsed, next_of, number, number_to, value_of};
 use sheets::{MAX_RIGHTS, MAX_TIMES, OPERATION, REPEAT, WIDE_MAX_ENTRIES};
-use std::marker::Model;
 
-// The places of the entries that run, as many as may.
-#[derive(Drop)]
-pub struct Places {
-    row: [usize; WIDE_MAX_ENTRIES],
-    count: usize,
-}
+// A place for each entry that may run.
+pub type Places = [usize; WIDE_MAX_ENTRIES];
 
-impl Model for Places {
-    ghost Value = { List ℕ };
-
-    ghost view = { λ p. take p.count p.row };
-
-    ghost invariant = { λ p. p.count ≤ 4096 };
-}
-
-impl Places {
-    fn new() -> Places
-        ensures { result ≡ [] }
-    {
-        Places {
-            row: [0; WIDE_MAX_ENTRIES],
-            count: 0,
-        }
-    }
-
-    fn len(&self) -> usize
-        ensures { result ≡ length self.now }
-    {
-        self.count
-    }
-
-    fn push(&mut self, place: usize)
-        requires { length self.old < 4096 }
-        ensures { self.new ≡ self.old ++ place ∷ [] }
-    {
-        self.row[self.count] = place;
-        self.count += 1;
-    }
-
-    pub fn as_slice(&self) -> &[usize]
-        ensures { result.now ≡ self.now }
-    {
-        &self.row[..self.count]
-    }
+// The place after a block or an entry, and how many places are laid.
+#[derive(Clone, Copy)]
+pub struct Laid {
+    pub next: usize,
+    pub count: usize,
 }
 
 // The last number of an entry that runs once.
@@ -67,53 +31,64 @@ fn last_number(s: &[u8], next: usize, tag: u32) -> Parsed
     }
 }
 
-// The places of the tags that the block at `at` runs are laid after those there: the place after the block.
+// The places of the tags that the block at `at` runs are laid into the row from place `n` on.
 #[cycle(lay_block_lay_entry)]
-fn lay_block(s: &[u8], at: usize, depth: u8, places: &mut Places) -> usize
-    requires { Room (block_at s.now at depth) (length places.old) }
-    ensures { (places.new ≡ places.old ++ places_of (block_at s.now at depth)) × (result ≡ end_of (block_at s.now at depth)) }
+fn lay_block(s: &[u8], at: usize, depth: u8, places: &mut Places, n: usize) -> Laid
+    requires { Room (block_at s.now at depth) n }
+    ensures { (places.new ≡ sets places.old n (places_of (block_at s.now at depth))) × (result ≡ laid_by (block_at s.now at depth) n) }
 {
     let tag = number(s, at);
     let value = value_of(tag);
     let next = next_of(tag);
     if value == 0 {
-        return next;
+        return Laid { next, count: n };
     }
-    let rest = lay_entry(s, at, next, value, depth, places);
-    lay_block(s, rest, depth, places)
+    let first = lay_entry(s, at, next, value, depth, places, n);
+    lay_block(s, first.next, depth, places, first.count)
 }
 
 // The same of an entry, whose tag stands at `at`. A block that lays nothing in its first turn is not read again.
 #[cycle(lay_block_lay_entry)]
-fn lay_entry(s: &[u8], at: usize, next: usize, tag: u32, depth: u8, places: &mut Places) -> usize
-    requires { Room (entry_at s.now at next tag depth) (length places.old) }
-    ensures { (places.new ≡ places.old ++ places_of (entry_at s.now at next tag depth)) × (result ≡ end_of (entry_at s.now at next tag depth)) }
+fn lay_entry(
+    s: &[u8],
+    at: usize,
+    next: usize,
+    tag: u32,
+    depth: u8,
+    places: &mut Places,
+    n: usize,
+) -> Laid
+    requires { Room (entry_at s.now at next tag depth) n }
+    ensures { (places.new ≡ sets places.old n (places_of (entry_at s.now at next tag depth))) × (result ≡ laid_by (entry_at s.now at next tag depth) n) }
 {
     if tag == REPEAT {
         let times = number_to(s, next, MAX_TIMES);
         let k = value_of(times);
         let inner = next_of(times);
-        let before = places.len();
-        let end = lay_block(s, inner, depth + 1, places);
-        if places.len() == before {
-            return end;
+        let first = lay_block(s, inner, depth + 1, places, n);
+        let end = first.next;
+        let mut count = first.count;
+        let mut again: u32 = 0;
+        let further = k - 1;
+        while (again < further) & (n < count) {
+            let more = lay_block(s, inner, depth + 1, places, count);
+            count = more.count;
+            again += 1;
         }
-        for _ in 1..k {
-            lay_block(s, inner, depth + 1, places);
-        }
-        return end;
+        return Laid { next: end, count };
     }
-    let last = last_number(s, next, tag);
-    places.push(at);
-    next_of(last)
+    let end = last_number(s, next, tag);
+    places[n] = at;
+    Laid {
+        next: next_of(end),
+        count: n + 1,
+    }
 }
 
-// The places of the tags that a good sheet runs, in order.
-pub fn expand(s: &[u8]) -> Places
+// The places of the tags that a good sheet runs, from the front of the row on.
+pub fn expand(s: &[u8], places: &mut Places)
     requires { Room (block_at s.now 0 0) 0 }
-    ensures { result ≡ places_of (block_at s.now 0 0) }
+    ensures { places.new ≡ sets places.old 0 (places_of (block_at s.now 0 0)) }
 {
-    let mut places = Places::new();
-    lay_block(s, 0, 0, &mut places);
-    places
+    lay_block(s, 0, 0, places, 0);
 }

@@ -1,5 +1,5 @@
 -- What changes a lost count. Assumes nothing.
-use Rattle.std.specs.Prelude.{None, Some}
+use Rattle.std.specs.Prelude.{None, Some, Err}
 use mathlib.Core.Path.{◌≡◌, refl}
 use mathlib.Core.Bool.{Bool, true, false, not, cond, true≢false}
 use Rattle.model.specs.State.{with_inputs, with_settings, with_errors, no_errors}
@@ -51,7 +51,7 @@ counts_stay s Pop r a = by_test (accepts (pop_answer s.controller)) (λ t. rw t)
 counts_stay s (Whole o b) r a = (whole_leaves s.controller s.flash o b).1
 counts_stay s (HostRead x) r a = refl
 counts_stay s (ViewPage p) r a = refl
-counts_stay s Clear r a = either (accepts (check (not (valid s.controller)) Invalid)) (with_errors s.controller no_errors) s.controller refl
+counts_stay s Clear r a = either (accepts (check (not (valid s.controller)) (Err Invalid))) (with_errors s.controller no_errors) s.controller refl
 counts_stay s Rma r a = either (accepts (rma_answer s.controller s.flash)) (rma_controller s.controller) s.controller refl
 counts_stay s (Round None false) r a = refl
 counts_stay s (Round None true) r a = absurd (true≢false a)

@@ -1,5 +1,5 @@
 -- While a step that could move a word waits, no call but reset takes that from it. Assumes nothing.
-use Rattle.std.specs.Prelude.{None, Some}
+use Rattle.std.specs.Prelude.{None, Some, Err}
 use Prim.Native.Nat.{ℕ, ◌+◌, ◌<◌}
 use native.Mathlib.Omega.{arith}
 use mathlib.Core.Path.{◌≡◌, refl}
@@ -123,7 +123,7 @@ module _ (s : State) (shaped : Shaped s.controller) (could : would_move s.contro
   -- ---- with work in progress, checks 4 and 12 refuse
 
   setting_refused : (fit : Bool) → accepts (setting_answer s.controller fit) ≡ false
-  setting_refused fit = refuses (check (not (valid s.controller)) Invalid) _ (rw busy)
+  setting_refused fit = refuses (check (not (valid s.controller)) (Err Invalid)) _ (rw busy)
 
   start_refused : accepts (start_answer s.controller) ≡ false
   unfolding start_answer
@@ -136,12 +136,12 @@ module _ (s : State) (shaped : Shaped s.controller) (could : would_move s.contro
   initialise_refused : accepts (initialise_answer s.controller s.flash) ≡ false
   unfolding initialise_answer
   initialise_refused =
-      refuses (check (not (valid_with s.controller s.flash)) Invalid) _ (refuses (check (is_disabled s.controller.phase) Disabled) _ (rw ready))
+      refuses (check (not (valid_with s.controller s.flash)) (Err Invalid)) _ (refuses (check (is_disabled s.controller.phase) (Err Disabled)) _ (rw ready))
 
   rma_refused : accepts (rma_answer s.controller s.flash) ≡ false
   unfolding rma_answer
   rma_refused =
-      refuses (check (not (valid_with s.controller s.flash)) Invalid) _ (refuses (check (is_disabled s.controller.phase) Disabled) _ (rw busy))
+      refuses (check (not (valid_with s.controller s.flash)) (Err Invalid)) _ (refuses (check (is_disabled s.controller.phase) (Err Disabled)) _ (rw busy))
 
   -- ---- queues
 

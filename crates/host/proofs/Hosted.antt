@@ -56,19 +56,19 @@ module _ (s : List ℕ) (f : Flash) where
   module _ (a : ByteAddress) where
     abbrev host_rest : Controller → Answer
     host_rest c =
-        or_else (check (unaligned a) Malformed)
-        (or_else (check (past_data c.setup.pages a) OutOfRange)
+        or_else (check (unaligned a) (Err Malformed))
+        (or_else (check (past_data c.setup.pages a) (Err OutOfRange))
         (read_answer c.setup (page_of a)))
 
     host_answer_same : or_else (ready_answer (valid_with (decode s) f) (decode s).phase)
-        (or_else (check (unaligned a) Malformed) (or_else (check (past_data (get_or s pages_at 0) a) OutOfRange) (read_answer (stands_for s).setup (page_of a))))
+        (or_else (check (unaligned a) (Err Malformed)) (or_else (check (past_data (get_or s pages_at 0) a) (Err OutOfRange)) (read_answer (stands_for s).setup (page_of a))))
         ≡ host_answer (decode s) f a
     unfolding host_answer stands_for
     host_answer_same = rest_same host_rest
 
     -- In a state that passes checks 1 to 3 the others decide.
     pub late_same : Ready s f
-        → or_else (check (unaligned a) Malformed) (or_else (check (past_data (get_or s pages_at 0) a) OutOfRange) (read_answer (stands_for s).setup (page_of a)))
+        → or_else (check (unaligned a) (Err Malformed)) (or_else (check (past_data (get_or s pages_at 0) a) (Err OutOfRange)) (read_answer (stands_for s).setup (page_of a)))
         ≡ host_answer (decode s) f a
     late_same ready = rw ready at host_answer_same
 
@@ -83,7 +83,7 @@ module _ (s : List ℕ) (f : Flash) where
       read_inside =
           let (ready, rest) = both_accept (ready_answer (valid_with (decode s) f) (decode s).phase) (host_rest (decode s)) h in
           let fits = lent_fits (decode s) f (phase_answer (decode s).phase) ready in
-          let range = (both_accept (check (past_data (decode s).setup.pages a) OutOfRange) _ (both_accept (check (unaligned a) Malformed) _ rest).1).0 in
+          let range = (both_accept (check (past_data (decode s).setup.pages a) (Err OutOfRange)) _ (both_accept (check (unaligned a) (Err Malformed)) _ rest).1).0 in
           let below : a.0 < 2 * (decode s).setup.pages * 1024 = leb-false _ _ (check_passed _ OutOfRange range) in
           rw host_pages (fits.0, omega (arith, word_at_inside (decode s).setup.pages false 0 a (data_inside (decode s).setup.pages 0 (page_of a) (omega arith))))
 
@@ -101,6 +101,9 @@ module _ (s : List ℕ) (f : Flash) where
     unfolding host_answer
     early_same h = rw h
 
+    pub answered_early : {e : Refusal} → ready_answer (valid_with (decode s) f) (decode s).phase ≡ Err e → Err e ≡ host_answer (decode s) f a
+    answered_early w = sym (early_same (rw w) ∙ w)
+
     pub read_early : {e : Refusal} → ready_answer (valid_with (decode s) f) (decode s).phase ≡ Err e → told_host_word (Err e) 0 ≡ host_read_in s f a
     read_early w =
         let h : host_answer (decode s) f a ≡ Err _ = early_same (rw w) ∙ w in
@@ -110,16 +113,19 @@ module _ (s : List ℕ) (f : Flash) where
     module _ (ready : Ready s f) where
       abbrev late : Answer
       late =
-          or_else (check (unaligned a) Malformed)
-          (or_else (check (past_data (get_or s pages_at 0) a) OutOfRange)
+          or_else (check (unaligned a) (Err Malformed))
+          (or_else (check (past_data (get_or s pages_at 0) a) (Err OutOfRange))
           (read_answer (stands_for s).setup (page_of a)))
+
+      pub late_answered : {e : Refusal} → late ≡ Err e → Err e ≡ host_answer (decode s) f a
+      late_answered w = sym w ∙ late_same ready
 
       pub late_refused : {e : Refusal} → late ≡ Err e → told_host_word (Err e) 0 ≡ host_read_in s f a
       late_refused w =
           let h : host_answer (decode s) f a ≡ Err _ = sym (late_same ready) ∙ w in
           rw h at (read_refused (rw h))
 
-      late_told : {done : Unit} → late ≡ Ok done → host_answer (decode s) f a ≡ accepted
+      pub late_told : {done : Unit} → late ≡ Ok done → host_answer (decode s) f a ≡ accepted
       late_told w = accepted_is _ (rw (sym (late_same ready) ∙ w))
 
       pub late_inside : {done : Unit} → late ≡ Ok done
@@ -134,10 +140,10 @@ module _ (s : List ℕ) (f : Flash) where
 
   module _ (p : Page) where
     abbrev view_rest : Controller → Answer
-    view_rest c = or_else (check (leb (data_pages c.setup.pages) p.0) OutOfRange) (read_answer c.setup p)
+    view_rest c = or_else (check (leb (data_pages c.setup.pages) p.0) (Err OutOfRange)) (read_answer c.setup p)
 
     pub view_answer_same : or_else (ready_answer (valid_with (decode s) f) (decode s).phase)
-        (or_else (check (leb (data_pages (get_or s pages_at 0)) p.0) OutOfRange) (read_answer (stands_for s).setup p))
+        (or_else (check (leb (data_pages (get_or s pages_at 0)) p.0) (Err OutOfRange)) (read_answer (stands_for s).setup p))
         ≡ view_answer (decode s) f p
     unfolding view_answer stands_for
     view_answer_same = rest_same view_rest
@@ -153,7 +159,7 @@ module _ (s : List ℕ) (f : Flash) where
       view_inside =
           let (ready, rest) = both_accept (ready_answer (valid_with (decode s) f) (decode s).phase) (view_rest (decode s)) h in
           let fits = lent_fits (decode s) f (phase_answer (decode s).phase) ready in
-          let range = (both_accept (check (leb (data_pages (decode s).setup.pages) p.0) OutOfRange) _ rest).0 in
+          let range = (both_accept (check (leb (data_pages (decode s).setup.pages) p.0) (Err OutOfRange)) _ rest).0 in
           let below : p.0 < 2 * (decode s).setup.pages = leb-false _ _ (check_passed _ OutOfRange range) in
           rw view_pages (fits.0, omega arith, omega (arith, data_inside (decode s).setup.pages 0 p below))
 

@@ -6,7 +6,7 @@ ghost use Rattle.model.specs.State.{flash};
 ghost use Rattle.model.specs.Geometry.{page_of, image_page, first_word};
 ghost use Rattle.model.specs.Refusals.{check, or_else};
 ghost use Rattle.model.specs.Checks.{unaligned, past_data};
-ghost use Rattle.model.specs.Host.{read_answer, view_answer, view};
+ghost use Rattle.model.specs.Host.{read_answer, host_answer, view_answer, view};
 ghost use Rattle.registers.specs.Layout.{pages_at};
 ghost use Rattle.registers.specs.Registers.{stands_for, decode};
 ghost use Rattle.calls.specs.Calls.{answer_of, or_zero, told_host_word, told_start, host_read_in, view_in};
@@ -21,17 +21,17 @@ fn read_answer(s: &Registers, p: Page) -> Answer
 {
     let ruling = lookups::ruling_at(s, false, 0, p);
     let by = ruling.decider;
-    refusals::check(!rights::grants(ruling.rights, 1), Refusal::Denied(by))
+    refusals::check(!rights::grants(ruling.rights, 1), Err(Refusal::Denied(by)))
 }
 
 // Checks 5, 7 and 9 of a host read, in this order.
 fn late_answer(s: &Registers, at: ByteAddress) -> Answer
-    ensures { result ≡ or_else (check (unaligned at) Refusal.Malformed) (or_else (check (past_data (get_or s.now pages_at 0) at) Refusal.OutOfRange) (read_answer (stands_for s.now).setup (page_of at))) }
+    ensures { result ≡ or_else (check (unaligned at) (Err Refusal.Malformed)) (or_else (check (past_data (get_or s.now pages_at 0) at) (Err Refusal.OutOfRange)) (read_answer (stands_for s.now).setup (page_of at))) }
 {
-    refusals::check(checks::unaligned(at), Refusal::Malformed)?;
+    refusals::check(checks::unaligned(at), Err(Refusal::Malformed))?;
     refusals::check(
         checks::past_data(registers::pages(s), at),
-        Refusal::OutOfRange,
+        Err(Refusal::OutOfRange),
     )?;
     read_answer(s, geometry::page_of(at))
 }
@@ -40,7 +40,8 @@ fn late_answer(s: &Registers, at: ByteAddress) -> Answer
 #[tactic(auto, using(crate::proofs::Hosted::late_refused))]
 pub fn ready_read(s: &Registers, image: &[u32], at: ByteAddress) -> Result<u32, Refusal>
     requires { Ready s.now (flash image.now) }
-    ensures { told_host_word (answer_of result) (or_zero result) ≡ host_read_in s.now (flash image.now) at }
+    ensures answer { answer_of result ≡ host_answer (decode s.now) (flash image.now) at }
+    ensures told { told_host_word (answer_of result) (or_zero result) ≡ host_read_in s.now (flash image.now) at }
 {
     late_answer(s, at)?;
     let place = geometry::word_at(registers::pages(s), false, 0, at);
@@ -48,9 +49,10 @@ pub fn ready_read(s: &Registers, image: &[u32], at: ByteAddress) -> Result<u32, 
 }
 
 // The true word at an address of the data pages.
-#[tactic(auto, using(crate::proofs::Hosted::read_early))]
+#[tactic(auto, using(crate::proofs::Hosted::answered_early, crate::proofs::Hosted::read_early))]
 pub fn host_read(s: &Registers, image: &[u32], at: ByteAddress) -> Result<u32, Refusal>
-    ensures { told_host_word (answer_of result) (or_zero result) ≡ host_read_in s.now (flash image.now) at }
+    ensures answer { answer_of result ≡ host_answer (decode s.now) (flash image.now) at }
+    ensures told { told_host_word (answer_of result) (or_zero result) ≡ host_read_in s.now (flash image.now) at }
 {
     validity::ready_with(s, image)?;
     ready_read(s, image, at)
@@ -62,7 +64,7 @@ fn view_answer(s: &Registers, image: &[u32], p: Page) -> Answer
 {
     let ready = validity::ready_with(s, image);
     let past = 2 * (registers::pages(s) as usize) <= p.0 as usize;
-    let range = refusals::check(past, Refusal::OutOfRange);
+    let range = refusals::check(past, Err(Refusal::OutOfRange));
     let right = read_answer(s, p);
     refusals::or_else(ready, refusals::or_else(range, right))
 }
@@ -80,7 +82,8 @@ fn page_start(s: &Registers, p: Page) -> u32
 // The word of the image at which a view starts.
 #[tactic(auto, using(crate::proofs::Hosted::view_refused, crate::proofs::Hosted::view_shown, crate::proofs::Hosted::view_fits))]
 pub fn view_start(s: &Registers, image: &[u32], p: Page) -> Result<u32, Refusal>
-    ensures { told_start (answer_of result) (or_zero result) ≡ view_in s.now (flash image.now) p }
+    ensures answer { answer_of result ≡ view_answer (decode s.now) (flash image.now) p }
+    ensures told { told_start (answer_of result) (or_zero result) ≡ view_in s.now (flash image.now) p }
 {
     view_answer(s, image, p)?;
     Ok(page_start(s, p))

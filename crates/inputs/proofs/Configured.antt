@@ -1,8 +1,8 @@
 -- What a call that sets a part leaves, by the tests that it makes; and what clearing leaves. Assumes nothing.
-use Rattle.std.specs.Prelude.{Ok, Err}
+use Rattle.std.specs.Prelude.{Err}
 use Prim.Native.Nat.{ℕ}
 use mathlib.Core.Path.{◌≡◌, refl, ap, sym, ◌∙◌}
-use mathlib.Core.Bool.{Bool, true, false, not}
+use mathlib.Core.Bool.{Bool, true, false, not, cond}
 use mathlib.Core.List.{List}
 use Rattle.model.specs.State.{is_busy, with_inputs, with_errors, no_errors}
 use Rattle.model.specs.Valid.{valid}
@@ -22,7 +22,7 @@ use Rattle.model.proofs.Accepting.{setting_passed}
 use Rattle.registers.proofs.Kept.{valid_encoded}
 use Rattle.registers.proofs.Written.{put_inputs_lem, put_errors_lem}
 use Rattle.validity.proofs.Taken.{taken_stands}
-use borrow.Author.Tests.{not-false, eqb-true}
+use borrow.Author.Tests.{not-false}
 
 -- ---- checks 1, 4 and 13
 
@@ -30,12 +30,12 @@ pub answer_invalid : (s : List ℕ) (fits : Bool) → valid (decode s) ≡ false
 answer_invalid s fits h = rw h
 
 pub answer_valid : (s : List ℕ) (fits : Bool) → valid (decode s) ≡ true
-    → or_else (check (is_busy (progress_at s)) Busy) (check (not fits) BadSetting) ≡ setting_answer (decode s) fits
+    → or_else (check (is_busy (progress_at s)) (Err Busy)) (check (not fits) (Err BadSetting)) ≡ setting_answer (decode s) fits
 unfolding stands_for
 answer_valid s fits h =
-    rw h (ap (λ (c : Controller). or_else (check (is_busy c.progress) Busy) (check (not fits) BadSetting)) (sym (taken_stands s h)))
+    rw h (ap (λ (c : Controller). or_else (check (is_busy c.progress) (Err Busy)) (check (not fits) (Err BadSetting))) (sym (taken_stands s h)))
 
-pub answer_busy : (s : List ℕ) (fits : Bool) {e : Refusal} → valid (decode s) ≡ true → Err e ≡ check (is_busy (progress_at s)) Busy
+pub answer_busy : (s : List ℕ) (fits : Bool) {e : Refusal} → valid (decode s) ≡ true → Err e ≡ check (is_busy (progress_at s)) (Err Busy)
     → Err e ≡ setting_answer (decode s) fits
 answer_busy s fits h w = refused_first _ (sym w) ∙ answer_valid s fits h
 
@@ -65,7 +65,7 @@ module _ (s : List ℕ) (next : Controller → Controller) (fits : Controller �
   taken : accepts a ≡ true → valid (decode s) ≡ true
   taken granted =
       let e = rw same at granted in
-      not-false _ (check_passed _ Invalid (both_accept (check (not (valid (decode s))) Invalid) _ e).0)
+      not-false _ (check_passed _ Invalid (both_accept (check (not (valid (decode s))) (Err Invalid)) _ e).0)
 
   fits_taken : accepts a ≡ true → fits (stands_for s) ≡ true
   fits_taken granted = (setting_passed (decode s) (fits (stands_for s)) (rw told at granted)).1
@@ -112,3 +112,8 @@ clear_accepted s h =
     let w : put s (with_errors (decode s) no_errors) ≡ put_errors s no_errors =
     ap (λ (c : Controller). put s (with_errors c no_errors)) (taken_stands s h) ∙ put_errors_lem s (valid_encoded s h) no_errors in
     rw (h, w)
+
+pub clear_left : (s : List ℕ) {v : Bool} {t : List ℕ} {a : Answer} → v ≡ valid (decode s) → t ≡ cond v (put_errors s no_errors) s → a ≡ check (not v) (Err Invalid)
+    → record { told = number_of a; registers = t } ≡ clear_in s
+clear_left s {v = true} e u w = rw (u, w) (clear_accepted s (sym e))
+clear_left s {v = false} e u w = rw (u, w) (clear_refused s (sym e))

@@ -1,10 +1,11 @@
 // The life-cycle inputs and clearing the error record, on registers, and the checks that inputs and settings share.
 #![tactic(auto)]
 
-ghost use Rattle.std.specs.Prelude.{◌≡◌};
+ghost use Rattle.std.specs.Prelude.{◌≡◌, cond};
+ghost use Rattle.model.specs.State.{no_errors};
 ghost use Rattle.model.specs.Refusals.{number_of};
 ghost use Rattle.model.specs.Settings.{setting_answer};
-ghost use Rattle.registers.specs.Registers.{decode};
+ghost use Rattle.registers.specs.Registers.{decode, put_errors};
 ghost use Rattle.calls.specs.Calls.{set_inputs_in, clear_in};
 
 use model::{Answer, Inputs, Refusal};
@@ -15,10 +16,10 @@ use registers::Registers;
 pub fn setting_answer(s: &Registers, fits: bool) -> Answer
     ensures { result ≡ setting_answer (decode s.now) fits }
 {
-    refusals::check(!validity::valid(s), Refusal::Invalid)?;
+    refusals::check(!validity::valid(s), Err(Refusal::Invalid))?;
     let busy = registers::progress(s).is_some();
-    refusals::check(busy, Refusal::Busy)?;
-    refusals::check(!fits, Refusal::BadSetting)
+    refusals::check(busy, Err(Refusal::Busy))?;
+    refusals::check(!fits, Err(Refusal::BadSetting))
 }
 
 // The life-cycle inputs: provision enable, and seeds locked. They are no setting.
@@ -31,13 +32,19 @@ pub fn set_inputs(s: &mut Registers, inputs: Inputs) -> Answer
     Ok(())
 }
 
+fn empty_record(s: &mut Registers, valid: bool)
+    ensures { s.new ≡ cond valid (put_errors s.old no_errors) s.old }
+{
+    if valid {
+        registers::put_errors(s, refusals::no_errors());
+    }
+}
+
 // Clears the error record: the kinds and the last address.
-#[tactic(auto, using(crate::proofs::Configured::clear_refused, crate::proofs::Configured::clear_accepted))]
 pub fn clear(s: &mut Registers) -> Answer
     ensures { record { told = number_of result; registers = s.new } ≡ clear_in s.old }
 {
-    let invalid = !validity::valid(s);
-    refusals::check(invalid, Refusal::Invalid)?;
-    registers::put_errors(s, refusals::no_errors());
-    Ok(())
+    let valid = validity::valid(s);
+    empty_record(s, valid);
+    refusals::check(!valid, Err(Refusal::Invalid))
 }

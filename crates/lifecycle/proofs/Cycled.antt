@@ -31,11 +31,11 @@ use Rattle.validity.proofs.Taken.{taken_stands}
 
 -- ---- reset
 
-pub reset_refused : (s : List ℕ) (d : ℕ) {e : Refusal} → check (not (pages_fit d)) Invalid ≡ Err e → record { told = refusal_number e; registers = s } ≡ reset_in s d
+pub reset_refused : (s : List ℕ) (d : ℕ) {e : Refusal} → check (not (pages_fit d)) (Err Invalid) ≡ Err e → record { told = refusal_number e; registers = s } ≡ reset_in s d
 unfolding reset_in reset
 reset_refused s d h = rw h
 
-pub reset_accepted : (s : List ℕ) (d : ℕ) {t : List ℕ} → check (not (pages_fit d)) Invalid ≡ accepted → t ≡ cleared s d → record { told = 0; registers = t } ≡ reset_in s d
+pub reset_accepted : (s : List ℕ) (d : ℕ) {t : List ℕ} → check (not (pages_fit d)) (Err Invalid) ≡ accepted → t ≡ cleared s d → record { told = 0; registers = t } ≡ reset_in s d
 unfolding reset_in reset
 reset_accepted s d h u = rw (h, u)
 
@@ -46,19 +46,19 @@ module _ (s : List ℕ) (f : Flash) where
   taken h = taken_stands s (with_valid (decode s) f h)
 
   -- The checks behind check 1 matter in a valid state only: there the registers stand for the controller.
-  checked_same : (rest : Controller → Answer) → or_else (check (not (valid_with (decode s) f)) Invalid) (rest (stands_for s)) ≡ or_else (check (not (valid_with (decode s) f)) Invalid) (rest (decode s))
+  checked_same : (rest : Controller → Answer) → or_else (check (not (valid_with (decode s) f)) (Err Invalid)) (rest (stands_for s)) ≡ or_else (check (not (valid_with (decode s) f)) (Err Invalid)) (rest (decode s))
   checked_same rest =
-      by_test (valid_with (decode s) f) (λ h. ap (λ (c : Controller). or_else (check (not (valid_with (decode s) f)) Invalid) (rest c)) (sym (taken h))) (λ h. rw h)
+      by_test (valid_with (decode s) f) (λ h. ap (λ (c : Controller). or_else (check (not (valid_with (decode s) f)) (Err Invalid)) (rest c)) (sym (taken h))) (λ h. rw h)
 
-  valid_with_lem : (rest : Answer) → accepts (or_else (check (not (valid_with (decode s) f)) Invalid) rest) ≡ true → valid_with (decode s) f ≡ true
-  valid_with_lem rest h = not-false _ (check_passed _ Invalid (both_accept (check (not (valid_with (decode s) f)) Invalid) rest h).0)
+  valid_with_lem : (rest : Answer) → accepts (or_else (check (not (valid_with (decode s) f)) (Err Invalid)) rest) ≡ true → valid_with (decode s) f ≡ true
+  valid_with_lem rest h = not-false _ (check_passed _ Invalid (both_accept (check (not (valid_with (decode s) f)) (Err Invalid)) rest h).0)
 
   -- ---- initialise
 
   pub initialise_checks : initialise_answer (decode s) f
-      ≡ or_else (check (not (valid_with (decode s) f)) Invalid) (or_else (check (is_disabled (phase_of (get_or s phase_at 0))) Disabled) (check (is_ready (phase_of (get_or s phase_at 0))) Unexpected))
+      ≡ or_else (check (not (valid_with (decode s) f)) (Err Invalid)) (or_else (check (is_disabled (phase_of (get_or s phase_at 0))) (Err Disabled)) (check (is_ready (phase_of (get_or s phase_at 0))) (Err Unexpected)))
   unfolding initialise_answer stands_for
-  initialise_checks = sym (checked_same (λ c. or_else (check (is_disabled c.phase) Disabled) (check (is_ready c.phase) Unexpected)))
+  initialise_checks = sym (checked_same (λ c. or_else (check (is_disabled c.phase) (Err Disabled)) (check (is_ready c.phase) (Err Unexpected))))
 
   pub initialise_refused : {e : Refusal} → initialise_answer (decode s) f ≡ Err e → record { told = told_seeds (Err e) None; registers = s } ≡ initialise_in s f
   unfolding initialise_in initialise
@@ -105,9 +105,9 @@ module _ (s : List ℕ) (f : Flash) where
   -- ---- RMA
 
   pub rma_checks : rma_answer (decode s) f
-      ≡ or_else (check (not (valid_with (decode s) f)) Invalid) (or_else (check (is_disabled (phase_of (get_or s phase_at 0))) Disabled) (check (is_busy (progress_at s)) Busy))
+      ≡ or_else (check (not (valid_with (decode s) f)) (Err Invalid)) (or_else (check (is_disabled (phase_of (get_or s phase_at 0))) (Err Disabled)) (check (is_busy (progress_at s)) (Err Busy)))
   unfolding rma_answer stands_for
-  rma_checks = sym (checked_same (λ c. or_else (check (is_disabled c.phase) Disabled) (check (is_busy c.progress) Busy)))
+  rma_checks = sym (checked_same (λ c. or_else (check (is_disabled c.phase) (Err Disabled)) (check (is_busy c.progress) (Err Busy))))
 
   pub rma_refused : {e : Refusal} → rma_answer (decode s) f ≡ Err e → record { told = refusal_number e; registers = s; flash = f } ≡ rma_in s f
   unfolding rma_in rma

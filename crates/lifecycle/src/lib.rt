@@ -17,7 +17,7 @@ use registers::Registers;
 pub fn reset(s: &mut Registers, pages: u32) -> Answer
     ensures { record { told = number_of result; registers = s.new } ≡ reset_in s.old pages }
 {
-    refusals::check(!geometry::pages_fit(pages), Refusal::Invalid)?;
+    refusals::check(!geometry::pages_fit(pages), Err(Refusal::Invalid))?;
     registers::clear(s, pages);
     Ok(())
 }
@@ -40,9 +40,9 @@ fn initialise_answer(s: &Registers, image: &[u32]) -> Answer
     ensures { result ≡ initialise_answer (decode s.now) (flash image.now) }
 {
     let phase = registers::phase(s);
-    refusals::check(!validity::valid_with(s, image), Refusal::Invalid)?;
-    refusals::check(is_disabled(phase), Refusal::Disabled)?;
-    refusals::check(refusals::is_ready(phase), Refusal::Unexpected)
+    refusals::check(!validity::valid_with(s, image), Err(Refusal::Invalid))?;
+    refusals::check(is_disabled(phase), Err(Refusal::Disabled))?;
+    refusals::check(refusals::is_ready(phase), Err(Refusal::Unexpected))
 }
 
 // A seed is the first 8 bus words of its page.
@@ -94,9 +94,9 @@ pub fn initialise(s: &mut Registers, image: &[u32]) -> Result<Option<Seeds>, Ref
 fn rma_answer(s: &Registers, image: &[u32]) -> Answer
     ensures { result ≡ rma_answer (decode s.now) (flash image.now) }
 {
-    refusals::check(!validity::valid_with(s, image), Refusal::Invalid)?;
-    refusals::check(is_disabled(registers::phase(s)), Refusal::Disabled)?;
-    refusals::check(registers::progress(s).is_some(), Refusal::Busy)
+    refusals::check(!validity::valid_with(s, image), Err(Refusal::Invalid))?;
+    refusals::check(is_disabled(registers::phase(s)), Err(Refusal::Disabled))?;
+    refusals::check(registers::progress(s).is_some(), Err(Refusal::Busy))
 }
 
 // The image is wiped, both queues are emptied, and the controller is disabled until reset.

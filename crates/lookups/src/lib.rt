@@ -14,18 +14,20 @@ use registers::Registers;
 fn data_ruling(s: &Registers, p: Page) -> Ruling
     ensures { result ≡ data_ruling 0 (regions_of s.now) (get_or s.now default_at 0 % 256) p }
 {
-    for i in 0..8u8 {
-        let g = registers::region(s, i as usize);
-        if rights::decides(p, g) {
-            return Ruling {
-                rights: g.rights,
-                decider: Decider::Region(i),
-            };
+    'ruled: {
+        for i in 0..8u8 {
+            let g = registers::region(s, i as usize);
+            if rights::decides(p, g) {
+                break 'ruled Ruling {
+                    rights: g.rights,
+                    decider: Decider::Region(i),
+                };
+            }
         }
-    }
-    Ruling {
-        rights: registers::default_rights(s),
-        decider: Decider::Default,
+        Ruling {
+            rights: registers::default_rights(s),
+            decider: Decider::Default,
+        }
     }
 }
 

@@ -40,7 +40,7 @@ use Rattle.model.proofs.StepLaws.{step_ready}
 
 -- Checks 1, 2 and 3 accept a valid state only.
 pub ready_valid : (v : Bool) (p : Phase) → accepts (ready_answer v p) ≡ true → v ≡ true
-ready_valid v p h = not-false v (check_passed (not v) Invalid (both_accept (check (not v) Invalid) _ h).0)
+ready_valid v p h = not-false v (check_passed (not v) Invalid (both_accept (check (not v) (Err Invalid)) _ h).0)
 
 -- ---- push
 
@@ -95,7 +95,7 @@ module _ (c : Controller) (o : Operation) (k : ℕ) where
       → (k + c.queues.programs.len < o.count) × (c.queues.programs.len < 16)
   unfolding push_answer
   push_passed h =
-      let (some, room) = both_accept (check (leb o.count (k + c.queues.programs.len)) Unexpected) _ h in (
+      let (some, room) = both_accept (check (leb o.count (k + c.queues.programs.len)) (Err Unexpected)) _ h in (
         leb-false o.count (k + c.queues.programs.len) (check_passed _ Unexpected some),
         leb-false 16 c.queues.programs.len (check_passed _ QueueFull room),
       )
@@ -106,7 +106,7 @@ module _ (c : Controller) (o : Operation) (k : ℕ) where
 pub pop_passed : (c : Controller) → accepts (pop_answer c) ≡ true → (valid c ≡ true) × (0 < c.queues.reads.len)
 unfolding pop_answer
 pop_passed c h =
-    let both = both_accept (check (not (valid c)) Invalid) _ h in
+    let both = both_accept (check (not (valid c)) (Err Invalid)) _ h in
     let some = eqb-false c.queues.reads.len 0 (check_passed (is_empty c.queues.reads) QueueEmpty both.1) in
     (not-false (valid c) (check_passed (not (valid c)) Invalid both.0), omega (arith, some))
 
@@ -143,11 +143,11 @@ read_leaves c f o k readable e h = rw (h, e)
 -- ---- calls that are lent the flash and check 1 first
 
 -- Where check 1 accepts, D is at most 256 and the image has its length.
-pub lent_fits : (c : Controller) (f : Flash) (rest : Answer) → accepts (or_else (check (not (valid_with c f)) Invalid) rest) ≡ true
+pub lent_fits : (c : Controller) (f : Flash) (rest : Answer) → accepts (or_else (check (not (valid_with c f)) (Err Invalid)) rest) ≡ true
     → (c.setup.pages ≤ 256) × (length f.words ≡ image_words c.setup.pages)
 lent_fits c f rest h =
     let fits : valid_with c f ≡ true =
-    not-false _ (check_passed _ Invalid (both_accept (check (not (valid_with c f)) Invalid) rest h).0) in
+    not-false _ (check_passed _ Invalid (both_accept (check (not (valid_with c f)) (Err Invalid)) rest h).0) in
     ((pages_bound c (with_valid c f fits)).1, with_length c f fits)
 
 -- ---- settings
@@ -156,6 +156,6 @@ lent_fits c f rest h =
 pub setting_passed : (c : Controller) (fits : Bool) → accepts (setting_answer c fits) ≡ true
     → (is_busy c.progress ≡ false) × (fits ≡ true)
 setting_passed c fits h =
-    let r = (both_accept (check (not (valid c)) Invalid) _ h).1 in
-    let (b, g) = both_accept (check (is_busy c.progress) Busy) _ r in
+    let r = (both_accept (check (not (valid c)) (Err Invalid)) _ h).1 in
+    let (b, g) = both_accept (check (is_busy c.progress) (Err Busy)) _ r in
     (check_passed _ Busy b, not-false fits (check_passed _ BadSetting g))

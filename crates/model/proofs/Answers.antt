@@ -55,11 +55,11 @@ both_accept a b h =
     by_test (accepts a) (λ e. (e, rw e at h)) (λ e. absurd (true≢false (sym (rw e at h) ∙ e)))
 
 -- A check that accepts does not apply.
-pub check_passed : (t : Bool) (r : Refusal) → accepts (check t r) ≡ true → t ≡ false
+pub check_passed : (t : Bool) (r : Refusal) → accepts (check t (Err r)) ≡ true → t ≡ false
 check_passed true r h = absurd (true≢false (sym h))
 check_passed false r h = refl
 
-pub passed : (t : Bool) (r : Refusal) {done : Unit} → check t r ≡ Ok done → t ≡ false
+pub passed : (t : Bool) (r : Refusal) {done : Unit} → check t (Err r) ≡ Ok done → t ≡ false
 passed t r h = check_passed t r (rw h)
 
 -- Checks 1, 2 and 3 come in this order.
@@ -74,9 +74,9 @@ then_uninitialised = refl
 
 -- Checks 1, 2 and 3 pass: the controller is ready.
 pub ready_passed : (v : Bool) (p : Phase) → accepts (ready_answer v p) ≡ true → is_ready p ≡ true
-ready_passed v phase.Uninitialised h = (both_accept (check (not v) Invalid) _ h).1
+ready_passed v phase.Uninitialised h = (both_accept (check (not v) (Err Invalid)) _ h).1
 ready_passed v phase.Ready h = refl
-ready_passed v phase.Disabled h = (both_accept (check (not v) Invalid) _ h).1
+ready_passed v phase.Disabled h = (both_accept (check (not v) (Err Invalid)) _ h).1
 
 -- A valid state that is ready passes them.
 pub ready_accepts : (p : Phase) → is_ready p ≡ true → accepts (ready_answer true p) ≡ true
@@ -85,7 +85,7 @@ ready_accepts phase.Ready h = h
 ready_accepts phase.Disabled h = h
 
 -- Refusals 1 to 4 are not recorded.
-pub unrecorded : (v : Bool) (p : Phase) (b : Bool) → is_recorded (number_of (or_else (ready_answer v p) (check b Busy))) ≡ false
+pub unrecorded : (v : Bool) (p : Phase) (b : Bool) → is_recorded (number_of (or_else (ready_answer v p) (check b (Err Busy)))) ≡ false
 unrecorded false p b = refl
 unrecorded true phase.Uninitialised b = refl
 unrecorded true phase.Ready true = refl
@@ -108,7 +108,7 @@ undenied_reports_none (Err r) h = refl
 -- The first of them that applies answers.
 abbrev first_of : Decider → Bool → Bool → Bool → Bool → Answer
 first_of by m r w d =
-    or_else (check m Malformed) (or_else (check r OutOfRange) (or_else (check w CrossesWindow) (check d (Denied by))))
+    or_else (check m (Err Malformed)) (or_else (check r (Err OutOfRange)) (or_else (check w (Err CrossesWindow)) (check d (Err (Denied by)))))
 
 -- Each of them is recorded,
 first_recorded : (by : Decider) (m r w d : Bool) → accepts (first_of by m r w d) ≡ false → is_recorded (number_of (first_of by m r w d)) ≡ true

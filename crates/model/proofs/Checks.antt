@@ -1,4 +1,5 @@
 -- What an operation that passes check 5 is known to be. Assumes nothing.
+use Rattle.std.specs.Prelude.{Err}
 use Prim.Native.Nat.{◌≤◌, ◌<◌}
 use native.Mathlib.Omega.{arith}
 use mathlib.Core.Path.{◌≡◌, refl}
@@ -58,7 +59,7 @@ pub span_words_le : (o : Operation) → malformed o ≡ false → is_bank_erase 
 span_words_le o h n = (span_words_bound o h n).1
 
 -- Check 5 accepts what is not malformed.
-pub formed : (malformed : Bool) → accepts (check malformed Malformed) ≡ not malformed
+pub formed : (malformed : Bool) → accepts (check malformed (Err Malformed)) ≡ not malformed
 formed true = refl
 formed false = refl
 

@@ -1,5 +1,6 @@
 -- Denied reads (02, L3): cases computed, and which words of a read are readable, by its pages and by the answer of its checks.
 -- Assumes nothing.
+use Rattle.std.specs.Prelude.{Err}
 use Prim.Native.Nat.{ℕ, ◌≤◌, ◌<◌}
 use native.Mathlib.Omega.{arith}
 use mathlib.Core.Path.{◌≡◌, refl, sym, ◌∙◌}
@@ -96,8 +97,8 @@ module _ (s : Setup) (o : Operation) (r : is_read o ≡ false) (h : starts o (op
 
 -- A read has no window to cross: it is accepted or denied if it passes 5 and 7.
 asked_by : (m r d : Bool) (by : Decider)
-    → (accepts (or_else (check m Malformed) (or_else (check r OutOfRange) (or_else (check false CrossesWindow) (check d (Denied by)))))
-    || is_denied (or_else (check m Malformed) (or_else (check r OutOfRange) (or_else (check false CrossesWindow) (check d (Denied by))))))
+    → (accepts (or_else (check m (Err Malformed)) (or_else (check r (Err OutOfRange)) (or_else (check false (Err CrossesWindow)) (check d (Err (Denied by))))))
+    || is_denied (or_else (check m (Err Malformed)) (or_else (check r (Err OutOfRange)) (or_else (check false (Err CrossesWindow)) (check d (Err (Denied by)))))))
     ≡ (not m && not r)
 asked_by true r d by = refl
 asked_by false true d by = refl

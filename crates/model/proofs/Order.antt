@@ -110,7 +110,7 @@ rma_busy c f w h p r = rw (h, p, r)
 
 -- Settings are allowed in every phase: with nothing in progress only 13 refuses one.
 pub settings_any_phase : (c : Controller) (fits : Bool) → valid c ≡ true → c.progress ≡ None
-    → setting_answer c fits ≡ check (not fits) BadSetting
+    → setting_answer c fits ≡ check (not fits) (Err BadSetting)
 settings_any_phase c true h e = simp (h, e)
 settings_any_phase c false h e = simp (h, e)
 

@@ -1,5 +1,5 @@
 -- Checks 5, 7, 8 and 9 of an operation. (01, 'When the desk says no')
-use Rattle.std.specs.Prelude.{ℕ, ◌+◌, ◌-◌, ◌*◌, ◌/◌, ◌%◌, Bool, ◌&&◌, ◌||◌, not, cond, ltb, leb, eqb}
+use Rattle.std.specs.Prelude.{ℕ, ◌+◌, ◌-◌, ◌*◌, ◌/◌, ◌%◌, Bool, ◌&&◌, ◌||◌, not, cond, ltb, leb, eqb, Err}
 use Rattle.model.specs.Geometry.{data_pages, info_count, page_bytes, page_of, bank_of}
 use Rattle.model.specs.Kinds.{is_program, is_bank_erase, is_information, no_kind, no_partition, uses_count, uses_type, max_count}
 use Rattle.model.specs.Places.{span_words, span_address}
@@ -53,7 +53,7 @@ crosses_window o =
 -- Checks 5, 7, 8 and 9, in this order: the first that applies answers.
 unfoldable pub operation_answer : Setup → Operation → Answer
 operation_answer s o =
-    or_else (check (malformed o) Malformed)
-    (or_else (check (out_of_range s.pages o) OutOfRange)
-    (or_else (check (crosses_window o) CrossesWindow)
-    (check (denied s o) (Denied (decider_of s o)))))
+    or_else (check (malformed o) (Err Malformed))
+    (or_else (check (out_of_range s.pages o) (Err OutOfRange))
+    (or_else (check (crosses_window o) (Err CrossesWindow))
+    (check (denied s o) (Err (Denied (decider_of s o))))))

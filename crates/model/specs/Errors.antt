@@ -1,5 +1,5 @@
 -- The error record, and the call that clears it. (01, 'When the desk says no'; 02, L3)
-use Rattle.std.specs.Prelude.{ℕ, Bool, ◌||◌, not, cond, eqb}
+use Rattle.std.specs.Prelude.{ℕ, Bool, ◌||◌, not, cond, eqb, Err}
 use Rattle.model.specs.Places.{span_address}
 use Rattle.model.specs.State.{with_errors, no_errors}
 use Rattle.model.specs.Rights.{readable_words}
@@ -41,4 +41,4 @@ with_recorded c n o = with_errors c (recorded n (error_address c.setup n o) c.er
 
 -- Clearing checks 1 only. It leaves no kinds and a last address of 0.
 unfoldable pub clear : Controller → Outcome
-clear c = settle c (with_errors c no_errors) (check (not (valid c)) Invalid)
+clear c = settle c (with_errors c no_errors) (check (not (valid c)) (Err Invalid))

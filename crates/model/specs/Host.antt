@@ -1,6 +1,6 @@
 -- Host read and view: reads past the queues, allowed during an operation and never recorded.
 -- (01, 'Who may touch which page' and 'When the desk says no')
-use Rattle.std.specs.Prelude.{ℕ, Bool, false, not, cond, List, [], leb, take, drop}
+use Rattle.std.specs.Prelude.{ℕ, Bool, false, not, cond, List, [], leb, take, drop, Err}
 use Rattle.model.specs.Geometry.{data_pages, page_words, page_of, image_page, first_word, word_at}
 use Rattle.model.specs.Kinds.{read_right}
 use Rattle.model.specs.State.{Flash}
@@ -23,15 +23,15 @@ abbrev pub unreadable : Setup → Page → Bool
 unreadable s p = not (grants (ruling_at s false 0 p).rights read_right)
 
 abbrev pub read_answer : Setup → Page → Answer
-read_answer s p = check (unreadable s p) (Denied (ruling_at s false 0 p).decider)
+read_answer s p = check (unreadable s p) (Err (Denied (ruling_at s false 0 p).decider))
 
 -- ---- host read: checks 1, 2, 3, 5, 7 and 9
 
 unfoldable pub host_answer : Controller → Flash → ByteAddress → Answer
 host_answer c f a =
     or_else (ready_answer (valid_with c f) c.phase)
-    (or_else (check (unaligned a) Malformed)
-    (or_else (check (past_data c.setup.pages a) OutOfRange)
+    (or_else (check (unaligned a) (Err Malformed))
+    (or_else (check (past_data c.setup.pages a) (Err OutOfRange))
     (read_answer c.setup (page_of a))))
 
 unfoldable pub host_read : Controller → Flash → ByteAddress → Fetched
@@ -46,7 +46,7 @@ host_read c f a = record {
 unfoldable pub view_answer : Controller → Flash → Page → Answer
 view_answer c f p =
     or_else (ready_answer (valid_with c f) c.phase)
-    (or_else (check (leb (data_pages c.setup.pages) p.0) OutOfRange)
+    (or_else (check (leb (data_pages c.setup.pages) p.0) (Err OutOfRange))
     (read_answer c.setup p))
 
 -- A view is the page's own 256 words inside the lent image: its number, what it reports, where it starts in the image, and its

@@ -1,5 +1,5 @@
 -- Reset, initialise with the seeds, and RMA. (01, 'Phases')
-use Rattle.std.specs.Prelude.{Option, None, Some, ℕ, suc, Bool, true, false, ◌&&◌, ◌||◌, not, cond, List, [], ◌∷◌, eqb, take, drop}
+use Rattle.std.specs.Prelude.{Option, None, Some, ℕ, suc, Bool, true, false, ◌&&◌, ◌||◌, not, cond, List, [], ◌∷◌, eqb, take, drop, Err}
 use Rattle.model.specs.Geometry.{pages_fit, first_word, image_page_of, is_data, special_page, creator_page, owner_page, isolated_page}
 use Rattle.model.specs.Words.{all_ones}
 use Rattle.model.specs.State.{Flash, flash, Leaves, with_phase, with_queues, empty_queues, reset_controller, is_ready, is_busy}
@@ -18,7 +18,7 @@ use Rattle.model.specs.declared.Refusal.TheVariants.{Invalid, Disabled, Busy, Un
 
 -- Reset takes any state and checks only its D, for 1; refused, it hands that state back. It doesn't touch an image.
 unfoldable pub reset : Controller → ℕ → Outcome
-reset c d = settle c (reset_controller d) (check (not (pages_fit d)) Invalid)
+reset c d = settle c (reset_controller d) (check (not (pages_fit d)) (Err Invalid))
 
 -- (01: shut)
 abbrev pub is_disabled : Phase → Bool
@@ -45,9 +45,9 @@ seeds_of d f = record { creator = seed_at d creator_page f; owner = seed_at d ow
 -- Checks 1, 2 and 12 (when ready).
 unfoldable pub initialise_answer : Controller → Flash → Answer
 initialise_answer c f =
-    or_else (check (not (valid_with c f)) Invalid)
-    (or_else (check (is_disabled c.phase) Disabled)
-    (check (is_ready c.phase) Unexpected))
+    or_else (check (not (valid_with c f)) (Err Invalid))
+    (or_else (check (is_disabled c.phase) (Err Disabled))
+    (check (is_ready c.phase) (Err Unexpected)))
 
 -- An uninitialised controller becomes ready.
 unfoldable pub initialise : Controller → Flash → Initialised
@@ -77,9 +77,9 @@ wiped d i (w ∷ ws) = cond (is_wiped d (record { 0 = i })) all_ones w ∷ wiped
 -- Checks 1, 2 and 4.
 unfoldable pub rma_answer : Controller → Flash → Answer
 rma_answer c f =
-    or_else (check (not (valid_with c f)) Invalid)
-    (or_else (check (is_disabled c.phase) Disabled)
-    (check (is_busy c.progress) Busy))
+    or_else (check (not (valid_with c f)) (Err Invalid))
+    (or_else (check (is_disabled c.phase) (Err Disabled))
+    (check (is_busy c.progress) (Err Busy)))
 
 -- Both queues are emptied, and the controller is disabled until reset (000). Nothing else of it changes.
 abbrev pub rma_controller : Controller → Controller

@@ -70,8 +70,8 @@ abbrev pub is_denied_read : Operation → ℕ → Bool
 is_denied_read o n = is_read o && eqb n 9
 
 -- A check: the refusal if its test holds.
-abbrev pub check : Bool → Refusal → Answer
-check test r = cond test (Err r) accepted
+abbrev pub check : Bool → Answer → Answer
+check test a = cond test a accepted
 
 -- The first check that applies answers.
 abbrev pub or_else : Answer → Answer → Answer
@@ -85,7 +85,7 @@ phase_answer phase.Disabled = Err Disabled
 
 -- Checks 1, 2 and 3, with which start, push, step, host read, view and whole operations begin.
 abbrev pub ready_answer : Bool → Phase → Answer
-ready_answer valid p = or_else (check (not valid) Invalid) (phase_answer p)
+ready_answer valid p = or_else (check (not valid) (Err Invalid)) (phase_answer p)
 
 -- A refusal that leaves the state as it was.
 abbrev pub refused : Controller → Answer → Outcome

@@ -1,5 +1,5 @@
 -- Inputs and settings: checks 1, 4 and 13, allowed when disabled. (01, 'What may be asked' and 'When the desk says no')
-use Rattle.std.specs.Prelude.{ℕ, Bool, true, ◌&&◌, not, ltb, set}
+use Rattle.std.specs.Prelude.{ℕ, Bool, true, ◌&&◌, not, ltb, set, Err}
 use Rattle.model.specs.Geometry.{info_count, info_index}
 use Rattle.model.specs.State.{is_busy, with_inputs, with_settings}
 use Rattle.model.specs.Refusals.{check, or_else, settle}
@@ -16,9 +16,9 @@ use Rattle.model.specs.declared.Refusal.TheVariants.{Invalid, Busy, BadSetting}
 -- Checks 1, 4 and 13, in this order; `fits` says that 13 does not apply.
 abbrev pub setting_answer : Controller → Bool → Answer
 setting_answer c fits =
-    or_else (check (not (valid c)) Invalid)
-    (or_else (check (is_busy c.progress) Busy)
-    (check (not fits) BadSetting))
+    or_else (check (not (valid c)) (Err Invalid))
+    (or_else (check (is_busy c.progress) (Err Busy))
+    (check (not fits) (Err BadSetting)))
 
 -- The life-cycle inputs: provision enable, and seeds locked. They are no setting.
 unfoldable pub set_inputs : Controller → Inputs → Outcome

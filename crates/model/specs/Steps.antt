@@ -30,7 +30,7 @@ use Rattle.model.specs.declared.Refusal.TheVariants.{Invalid, Busy, QueueEmpty, 
 -- ---- start: checks 1 to 4, then 5, 7, 8 and 9, which are recorded
 
 unfoldable pub start_answer : Controller → Answer
-start_answer c = or_else (ready_answer (valid c) c.phase) (check (is_busy c.progress) Busy)
+start_answer c = or_else (ready_answer (valid c) c.phase) (check (is_busy c.progress) (Err Busy))
 
 -- The work of an operation, none of its words moved.
 abbrev pub work_of : Setup → Operation → Work
@@ -61,8 +61,8 @@ unfoldable pub push_answer : Controller → Progress → Answer
 push_answer c None = Err Unexpected
 push_answer c (Some (Read o moved readable)) = Err Unexpected
 push_answer c (Some (Program o moved)) =
-    or_else (check (leb o.count (moved + c.queues.programs.len)) Unexpected)
-    (check (is_full c.queues.programs) QueueFull)
+    or_else (check (leb o.count (moved + c.queues.programs.len)) (Err Unexpected))
+    (check (is_full c.queues.programs) (Err QueueFull))
 push_answer c (Some (Erase o moved)) = Err Unexpected
 
 unfoldable pub push : Controller → ℕ → Outcome
@@ -73,7 +73,7 @@ push c w =
 -- ---- pop: checks 1 and 10
 
 unfoldable pub pop_answer : Controller → Answer
-pop_answer c = or_else (check (not (valid c)) Invalid) (check (is_empty c.queues.reads) QueueEmpty)
+pop_answer c = or_else (check (not (valid c)) (Err Invalid)) (check (is_empty c.queues.reads) (Err QueueEmpty))
 
 unfoldable pub pop : Controller → Fetched
 pop c = record {

@@ -64,7 +64,7 @@ turns o (suc n) r = turn o n (turns o n r)
 unfoldable pub whole_answer : Controller → Flash → Answer
 whole_answer c f =
     or_else (ready_answer (valid_with c f) c.phase)
-    (check (is_busy c.progress || not (both_empty c.queues)) Busy)
+    (check (is_busy c.progress || not (both_empty c.queues)) (Err Busy))
 
 -- 6, after 5: whole read or program, buffer shorter than n.
 abbrev pub short_buffer : Operation → List ℕ → Bool

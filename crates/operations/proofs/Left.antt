@@ -12,7 +12,7 @@ use Rattle.model.specs.Refusals.{accepted, accepts, ready_answer, number_of, che
 use Rattle.model.specs.Rights.{readable_words}
 use Rattle.model.specs.Errors.{is_recorded, recorded, error_address}
 use Rattle.model.specs.Checks.{operation_answer}
-use Rattle.model.specs.Steps.{start_answer, starts, progress_after, started}
+use Rattle.model.specs.Steps.{start_answer, starts, progress_after, started, start}
 use Rattle.model.specs.Refusals.{Answer}
 use Rattle.model.specs.declared.Refusal.{Refusal}
 use Rattle.model.specs.declared.Refusal.TheVariants.{Busy}
@@ -35,12 +35,12 @@ use Rattle.operations.specs.Starting.{Begins}
 
 -- Check 1 comes first, so what is in progress may be read where it lies.
 pub start_asked : (s : List ℕ)
-    → or_else (ready_answer (valid (decode s)) (decode s).phase) (check (is_busy (progress_at s)) Busy) ≡ start_answer (decode s)
+    → or_else (ready_answer (valid (decode s)) (decode s).phase) (check (is_busy (progress_at s)) (Err Busy)) ≡ start_answer (decode s)
 unfolding start_answer stands_for
 start_asked s =
     by_test (valid (decode s))
     (λ t.
-    ap (λ (c : Controller). or_else (ready_answer (valid (decode s)) (decode s).phase) (check (is_busy c.progress) Busy))
+    ap (λ (c : Controller). or_else (ready_answer (valid (decode s)) (decode s).phase) (check (is_busy c.progress) (Err Busy)))
     (sym (taken_stands s t)))
     (λ t. rw t)
 
@@ -48,7 +48,7 @@ pub start_unready : (s : List ℕ) {e : Refusal} → ready_answer (valid (decode
 unfolding start_answer
 start_unready s h = refused_first _ h
 
-pub start_ready : (s : List ℕ) → ready_answer (valid (decode s)) (decode s).phase ≡ accepted → check (is_busy (progress_at s)) Busy ≡ start_answer (decode s)
+pub start_ready : (s : List ℕ) → ready_answer (valid (decode s)) (decode s).phase ≡ accepted → check (is_busy (progress_at s)) (Err Busy) ≡ start_answer (decode s)
 start_ready s h = rw h at (start_asked s)
 
 -- ---- what starts is in progress
@@ -94,6 +94,9 @@ module _ (s : List ℕ) (o : Operation) where
   unfolding start_in
   start_early h = rw (start_stops (decode s) o (rw h), h, rw h at (not_recorded (decode s)))
 
+  pub answer_early : {e : Refusal} → start_answer (decode s) ≡ Err e → Err e ≡ (start (decode s) o).answer
+  answer_early h = rw (start_stops (decode s) o (rw h)) (sym h)
+
   -- or pass: checks 5, 7, 8 and 9 answer.
   module _ (h : start_answer (decode s) ≡ accepted) where
     passed : accepts (start_answer (decode s)) ≡ true
@@ -117,6 +120,14 @@ module _ (s : List ℕ) (o : Operation) where
         idle = subst (λ (c : Controller). is_busy c.progress ≡ false) same idle;
         answered = record { answered = answered; pages = subst (λ (c : Controller). (10 ≤ c.setup.pages) × (c.setup.pages ≤ 256)) same (pages_bound (decode s) fits) };
       }
+
+      goes_on : start (decode s) o ≡ started (stands_for s) o (operation_answer (stands_for s).setup o)
+      goes_on =
+          ap (λ (c : Controller). start c o) same
+          ∙ start_goes_on (stands_for s) o (subst (λ (c : Controller). accepts (start_answer c) ≡ true) same passed)
+
+      pub answer_goes : a ≡ (start (decode s) o).answer
+      answer_goes = rw goes_on answered
 
       pub start_goes : {t : List ℕ} → t ≡ put s (started (stands_for s) o a).controller → record { told = told_answer a; registers = t } ≡ start_in s o
       unfolding start_in

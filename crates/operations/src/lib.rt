@@ -4,7 +4,7 @@
 ghost use Rattle.std.specs.Prelude.{◌≡◌, true, cond};
 ghost use Rattle.model.specs.Kinds.{is_read};
 ghost use Rattle.model.specs.Rights.{readable_words};
-ghost use Rattle.model.specs.Steps.{start_answer, starts, progress_after, started};
+ghost use Rattle.model.specs.Steps.{start_answer, starts, progress_after, started, start};
 ghost use Rattle.registers.specs.Registers.{decode, stands_for, put_progress, put};
 ghost use Rattle.calls.specs.Calls.{told_answer, start_in};
 ghost use Rattle.operations.specs.Starting.{Begins};
@@ -18,7 +18,7 @@ fn start_answer(s: &Registers) -> Answer
     ensures { result ≡ start_answer (decode s.now) }
 {
     validity::ready(s)?;
-    refusals::check(registers::progress(s).is_some(), Refusal::Busy)
+    refusals::check(registers::progress(s).is_some(), Err(Refusal::Busy))
 }
 
 fn starts(o: Operation, answer: Answer) -> bool
@@ -66,7 +66,8 @@ fn started(s: &mut Registers, o: Operation, answer: Answer)
 
 #[tactic(auto, using(crate::proofs::Left::start_early))]
 pub fn start(s: &mut Registers, o: Operation) -> Answer
-    ensures { record { told = told_answer result; registers = s.new } ≡ start_in s.old o }
+    ensures answer { result ≡ (start (decode s.old) o).answer }
+    ensures left { record { told = told_answer result; registers = s.new } ≡ start_in s.old o }
 {
     let first = start_answer(s);
     match first {

@@ -1,6 +1,5 @@
 -- Laws of a payload's groups, bytes and words. Assumes nothing.
 use mathlib.Core.Path.{◌≡◌, refl, sym, ap, ◌∙◌}
-use mathlib.Core.Bool.{true, false}
 use mathlib.Core.Logic.{⊎_elim}
 use mathlib.Core.List.{List, [], ◌∷◌, ◌++◌, append_assoc}
 use Prim.Native.Nat.{ℕ, zero, suc, ◌+◌, ◌*◌, ◌-◌, ◌/◌, ◌%◌, ◌<◌, ◌≤◌}
@@ -9,12 +8,11 @@ use lib.ListN.{length, get_or, set, take, drop, replicate, length-append}
 use lib.ListN.{length-replicate}
 use lib.Seq.{take-suc-set, take-suc, take_all}
 use native.Mathlib.Numerals.{add-one}
-use Rattle.scan_queue.proofs.Encoding.{words_length}
+use Rattle.scan_queue.proofs.Encoding.{groups_some, words_length}
 use borrow.Rule.Slice.PartMut.{put_mid}
-use Rattle.std.proofs.lemmas.List.{drop-replicate, set_at, take_at, drop_at}
-use lib.Dec.{ltb}
-use borrow.Author.Tests.{lt-ltb, le-ltb, ltb-false}
-use Rattle.model.proofs.Bool.{which}
+use Rattle.std.proofs.lemmas.List.{length-take, take_more_set, drop-replicate, set_at, take_at, drop_at}
+use Rattle.std.proofs.lemmas.Bool.{cases_lt}
+use borrow.Author.Tests.{lt-ltb, le-ltb}
 use Rattle.scan_queue.specs.Payload.{groups, words_of, filled, written}
 
 -- ---- the groups of a number
@@ -22,7 +20,7 @@ use Rattle.scan_queue.specs.Payload.{groups, words_of, filled, written}
 one_more : (k w : ℕ) → (128 ≤ w → groups k (w / 128) ≡ groups (suc k) (w / 128)) → groups (suc k) w ≡ groups (suc (suc k)) w
 unfolding groups
 one_more k w more =
-    ⊎_elim (λ (e : ltb w 128 ≡ true). rw e refl) (λ (e : ltb w 128 ≡ false). rw e (ap (λ l. (w % 128 + 128) ∷ l) (more (ltb-false w 128 e)))) (which (ltb w 128))
+    ⊎_elim (λ (h : w < 128). rw (lt-ltb w 128 h) refl) (λ (h : 128 ≤ w). rw (le-ltb w 128 h) (ap (λ l. (w % 128 + 128) ∷ l) (more h))) (cases_lt w 128)
 
 enough : (w : ℕ) → w < 2097152 → groups 3 w ≡ groups 4 w
 enough w h = one_more 2 w (λ _. one_more 1 (w / 128) (λ _. one_more 0 (w / 128 / 128) (λ c. absurd (omega arith))))
@@ -35,26 +33,24 @@ first_group : (v : ℕ) → 128 ≤ v → v < 268435456 → groups 4 v ≡ (v % 
 unfolding groups
 first_group v a h = rw (le-ltb v 128 a) (ap (λ l. (v % 128 + 128) ∷ l) (enough (v / 128) (omega arith)))
 
-some_group : (v : ℕ) → 1 ≤ length (groups 4 v)
-unfolding groups
-some_group v = ⊎_elim (λ (e : ltb v 128 ≡ true). rw e (omega arith)) (λ (e : ltb v 128 ≡ false). rw e (omega arith)) (which (ltb v 128))
-
 pub few_groups : (k v : ℕ) → length (groups k v) ≤ k
 unfolding groups
 few_groups zero v = omega arith
 few_groups (suc k) v =
-    ⊎_elim (λ (e : ltb v 128 ≡ true). rw e (omega arith)) (λ (e : ltb v 128 ≡ false). rw e (omega (arith, few_groups k (v / 128)))) (which (ltb v 128))
+    ⊎_elim (λ (h : v < 128). rw (lt-ltb v 128 h) (omega arith)) (λ (h : 128 ≤ v). rw (le-ltb v 128 h) (omega (arith, few_groups k (v / 128)))) (cases_lt v 128)
 
--- Those laid so far, and those of what is left.
-module _ (l : List ℕ) (v r : ℕ) (same : l ++ groups 4 r ≡ groups 4 v) where
-  pub group_room : length l < 4
-  group_room = omega (arith, simp length-append at (ap length same), some_group r, few_groups 4 v)
+-- The first n of four bytes are the groups laid so far; with those of what is left they are those of the number.
+module _ (bytes : List ℕ) (n v r : ℕ) (four : length bytes ≡ 4) (few : n ≤ 4) (same : take n bytes ++ groups 4 r ≡ groups 4 v) where
+  pub group_room : n < 4
+  group_room = omega (arith, simp (length-append, length-take) at (ap length same), groups_some 3 r, few_groups 4 v)
 
-  pub group_laid : 128 ≤ r → r < 268435456 → (l ++ ((r % 128 + 128) ∷ [])) ++ groups 4 (r / 128) ≡ groups 4 v
-  group_laid a h = append_assoc l ((r % 128 + 128) ∷ []) (groups 4 (r / 128)) ∙ (rw (first_group r a h) at same)
+  pub group_laid : 128 ≤ r → r < 268435456 → take (n + 1) (set bytes n (r % 128 + 128)) ++ groups 4 (r / 128) ≡ groups 4 v
+  group_laid a h =
+      rw (take_more_set bytes n (r % 128 + 128) (omega (arith, group_room)))
+      (append_assoc (take n bytes) ((r % 128 + 128) ∷ []) (groups 4 (r / 128)) ∙ (rw (first_group r a h) at same))
 
-  pub groups_laid : r < 128 → l ++ (r ∷ []) ≡ groups 4 v
-  groups_laid h = rw (last_group r h) at same
+  pub groups_laid : r < 128 → take (n + 1) (set bytes n r) ≡ groups 4 v
+  groups_laid h = take_more_set bytes n r (omega (arith, group_room)) ∙ (rw (last_group r h) at same)
 
 -- ---- the 56 bytes: groups, length and bytes, copied over ones
 

@@ -2,24 +2,35 @@
 #![tactic(auto)]
 
 ghost use Rattle.std.specs.Prelude.{◌≡◌, ◌≤◌, ◌<◌, length};
-ghost use Rattle.scan_queue.specs.Payload.{groups, words_of, written};
+ghost use Rattle.scan_queue.specs.Payload.{words_of, written};
+ghost use Rattle.payloads.specs.Fill.{GroupsOf};
 
-use arrayvec::ArrayVec;
 use scan_queue::PAYLOAD_BYTES;
 
 // Groups of seven bits, low group first.
-#[tactic(auto, using(crate::proofs::Laying::group_room, crate::proofs::Laying::group_laid, crate::proofs::Laying::groups_laid))]
-pub fn groups_of(v: u32) -> ArrayVec<u8, 4>
+#[derive(Clone, Copy)]
+pub struct Groups {
+    pub count: usize,
+    pub bytes: [u8; 4],
+}
+
+#[tactic(auto, using(crate::proofs::Laying::group_room, crate::proofs::Laying::groups_laid))]
+pub fn groups_of(v: u32) -> Groups
     requires { v < 268435456 }
-    ensures { result.items ≡ groups 4 v }
+    ensures { GroupsOf v result }
 {
-    let mut groups = ArrayVec::new();
+    let mut groups = Groups {
+        count: 0,
+        bytes: [0; 4],
+    };
     let mut rest = v;
     while 128 <= rest {
-        groups.push((rest % 128 + 128) as u8);
+        groups.bytes[groups.count] = (rest % 128 + 128) as u8;
+        groups.count += 1;
         rest /= 128;
     }
-    groups.push(rest as u8);
+    groups.bytes[groups.count] = rest as u8;
+    groups.count += 1;
     groups
 }
 
@@ -38,10 +49,10 @@ fn laid_bytes(scan: Scan) -> [u8; PAYLOAD_BYTES]
 {
     let bytes = scan.bytes;
     let groups = groups_of(scan.serial);
-    let n = groups.len();
+    let n = groups.count;
     let start = n + 1;
     let mut laid = [0xFF; PAYLOAD_BYTES];
-    laid[..n].copy_from_slice(groups.as_slice());
+    laid[..n].copy_from_slice(&groups.bytes[..n]);
     laid[n] = bytes.len() as u8;
     laid[start..start + bytes.len()].copy_from_slice(bytes);
     laid

@@ -1,4 +1,5 @@
 -- Reset, initialise, RMA and clear keep a valid state valid. Assumes nothing.
+use Rattle.std.specs.Prelude.{Err}
 use Prim.Native.Nat.{ℕ, ◌*◌}
 use mathlib.Core.Path.{◌≡◌, refl}
 use mathlib.Core.Bool.{true, not}
@@ -49,7 +50,7 @@ module _ (c : Controller) (v : Valid c) where
   -- Reset keeps a valid state valid,
   pub reset_keeps : (d : ℕ) → Valid (reset c d).controller
   unfolding reset
-  reset_keeps d = settle_keeps c (reset_controller d) (check (not (pages_fit d)) Invalid) v λ h.
+  reset_keeps d = settle_keeps c (reset_controller d) (check (not (pages_fit d)) (Err Invalid)) v λ h.
       reset_valid d (not-false _ (check_passed (not (pages_fit d)) Invalid h))
 
   -- initialise too,
@@ -62,8 +63,8 @@ module _ (c : Controller) (v : Valid c) where
   pub rma_keeps : (f : Flash) → Valid (rma c f).result.controller
   unfolding rma rma_answer queue_of
   rma_keeps f = settle_keeps c (rma_controller c) (rma_answer c f) v λ h.
-      let r = (both_accept (check (not (valid_with c f)) Invalid) _ h).1 in
-      let b = (both_accept (check (is_disabled c.phase) Disabled) _ r).1 in
+      let r = (both_accept (check (not (valid_with c f)) (Err Invalid)) _ h).1 in
+      let b = (both_accept (check (is_disabled c.phase) (Err Disabled)) _ r).1 in
       let idle = check_passed _ Busy b in
       record {
         pages = v.pages;
@@ -80,7 +81,7 @@ module _ (c : Controller) (v : Valid c) where
   -- and clear.
   pub clear_keeps : Valid (clear c).controller
   unfolding clear
-  clear_keeps = settle_keeps c (with_errors c no_errors) (check (not (valid c)) Invalid) v λ h. record {
+  clear_keeps = settle_keeps c (with_errors c no_errors) (check (not (valid c)) (Err Invalid)) v λ h. record {
     pages = v.pages;
     settings = v.settings;
     errors = refl;

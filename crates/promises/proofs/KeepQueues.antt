@@ -1,5 +1,5 @@
 -- Push and pop keep a valid state valid. Assumes nothing.
-use Rattle.std.specs.Prelude.{None, Some}
+use Rattle.std.specs.Prelude.{None, Some, Err}
 use Prim.Native.Nat.{ℕ, ◌+◌, ◌<◌}
 use native.Mathlib.Omega.{arith}
 use mathlib.Core.Path.{◌≡◌, sym, ◌∙◌}
@@ -75,7 +75,7 @@ module _ (c : Controller) (v : Valid c) where
   unfolding pop pop_answer
   pop_keeps =
       settle_keeps c (with_queues c (with_reads c.queues (popped c.queues.reads))) (pop_answer c) v λ h.
-      let b = (both_accept (check (not (valid c)) Invalid) _ h).1 in
+      let b = (both_accept (check (not (valid c)) (Err Invalid)) _ h).1 in
       let some : is_empty c.queues.reads ≡ false = check_passed _ QueueEmpty b in
       let ready : is_ready c.phase ≡ true = sym (or-false (is_ready c.phase)) ∙ (rw some at v.closed) in
       ready_keeps c c.phase c.errors (with_reads c.queues (popped c.queues.reads)) c.progress v

@@ -56,7 +56,7 @@ plain : {n : ℕ} {N : ℕ → Type 0} (a : Answer) → is_denied a ≡ false �
 plain a h = record { says = rw h (undenied_reports_none a h); only = λ e. absurd (true≢false (sym e ∙ h)) }
 
 -- a check,
-checks : {n : ℕ} {N : ℕ → Type 0} (t : Bool) (r : Refusal) → is_denied (Err r) ≡ false → Right n N (check t r)
+checks : {n : ℕ} {N : ℕ → Type 0} (t : Bool) (r : Refusal) → is_denied (Err r) ≡ false → Right n N (check t (Err r))
 checks true r h = plain (Err r) h
 checks false r h = plain accepted refl
 
@@ -72,7 +72,7 @@ ready true phase.Ready = plain accepted refl
 ready true phase.Disabled = plain (Err Disabled) refl
 
 -- and check 9.
-denies : {N : ℕ → Type 0} (d : Bool) (by : Decider) → (d ≡ true → N (decider_number by)) → Right (decider_number by) N (check d (Denied by))
+denies : {N : ℕ → Type 0} (d : Bool) (by : Decider) → (d ≡ true → N (decider_number by)) → Right (decider_number by) N (check d (Err (Denied by)))
 denies true by h = record { says = refl; only = λ e. h refl }
 denies false by h = plain accepted refl
 

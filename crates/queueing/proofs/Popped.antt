@@ -23,11 +23,11 @@ use Rattle.registers.proofs.Written.{put_reads}
 use Rattle.calls.specs.Calls.{word_left, pop_in}
 use Rattle.validity.proofs.Taken.{taken_stands}
 
-pub pop_invalid : (s : List ℕ) {e : Refusal} → check (not (valid (decode s))) Invalid ≡ Err e → record { told = record { answer = refusal_number e; word = 0 }; registers = s } ≡ pop_in s
+pub pop_invalid : (s : List ℕ) {e : Refusal} → check (not (valid (decode s))) (Err Invalid) ≡ Err e → record { told = record { answer = refusal_number e; word = 0 }; registers = s } ≡ pop_in s
 unfolding pop_in pop pop_answer
-pop_invalid s h = rw (sym (refused_first (check (is_empty (decode s).queues.reads) QueueEmpty) h))
+pop_invalid s h = rw (sym (refused_first (check (is_empty (decode s).queues.reads) (Err QueueEmpty)) h))
 
-module _ (s : List ℕ) (passed : check (not (valid (decode s))) Invalid ≡ accepted) where
+module _ (s : List ℕ) (passed : check (not (valid (decode s))) (Err Invalid) ≡ accepted) where
   h : valid (decode s) ≡ true
   h = not-false _ (check_passed _ Invalid (rw passed))
 
@@ -45,15 +45,15 @@ module _ (s : List ℕ) (passed : check (not (valid (decode s))) Invalid ≡ acc
   unfolding pop_in
   by_pop = ap (λ (c : Controller). word_left s (pop c)) (sym same)
 
-  none : {e : Refusal} → check (is_empty (queue_at s reads_from)) QueueEmpty ≡ Err e → record { told = record { answer = refusal_number e; word = 0 }; registers = s } ≡ word_left s (pop (stands_for s))
+  none : {e : Refusal} → check (is_empty (queue_at s reads_from)) (Err QueueEmpty) ≡ Err e → record { told = record { answer = refusal_number e; word = 0 }; registers = s } ≡ word_left s (pop (stands_for s))
   unfolding pop pop_answer stands_for
   none e = rw (fits, e)
 
-  pub pop_none : {e : Refusal} → check (is_empty (queue_at s reads_from)) QueueEmpty ≡ Err e
+  pub pop_none : {e : Refusal} → check (is_empty (queue_at s reads_from)) (Err QueueEmpty) ≡ Err e
       → record { told = record { answer = refusal_number e; word = 0 }; registers = s } ≡ pop_in s
   pop_none e = none e ∙ by_pop
 
-  module _ (holds : check (is_empty (queue_at s reads_from)) QueueEmpty ≡ accepted) where
+  module _ (holds : check (is_empty (queue_at s reads_from)) (Err QueueEmpty) ≡ accepted) where
     held : is_empty (queue_at s reads_from) ≡ false
     held = check_passed _ QueueEmpty (rw holds)
 

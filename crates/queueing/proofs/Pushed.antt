@@ -67,19 +67,19 @@ module _ (s : List ℕ) (w : ℕ) where
 
     -- or a program, all of whose words are pushed,
     module _ {o : Operation} {k : ℕ} (e : progress_at s ≡ Some (Program o k)) where
-      pub push_all : {r : Refusal} → check (leb o.count (k + (queue_at s programs_from).len)) Unexpected ≡ Err r
+      pub push_all : {r : Refusal} → check (leb o.count (k + (queue_at s programs_from).len)) (Err Unexpected) ≡ Err r
           → record { told = refusal_number r; registers = s } ≡ push_in s w
       unfolding stands_for push_answer
       push_all t = refused (rw e (sym (refused_first _ t)))
 
       -- or for which the queue is full,
-      module _ (more : check (leb o.count (k + (queue_at s programs_from).len)) Unexpected ≡ accepted) where
-        pub push_full : {r : Refusal} → check (is_full (queue_at s programs_from)) QueueFull ≡ Err r → record { told = refusal_number r; registers = s } ≡ push_in s w
+      module _ (more : check (leb o.count (k + (queue_at s programs_from).len)) (Err Unexpected) ≡ accepted) where
+        pub push_full : {r : Refusal} → check (is_full (queue_at s programs_from)) (Err QueueFull) ≡ Err r → record { told = refusal_number r; registers = s } ≡ push_in s w
         unfolding stands_for push_answer
         push_full t = refused (rw (e, more, t))
 
         -- or the word joins it.
-        pub push_joins : {t : List ℕ} → check (is_full (queue_at s programs_from)) QueueFull ≡ accepted
+        pub push_joins : {t : List ℕ} → check (is_full (queue_at s programs_from)) (Err QueueFull) ≡ accepted
             → t ≡ put_queue s programs_from (pushed (queue_at s programs_from) w) → record { told = 0; registers = t } ≡ push_in s w
         unfolding stands_for push_answer
         push_joins t u =

@@ -29,9 +29,9 @@ pub fn push(s: &mut Registers, word: u32) -> Answer
     let programs = registers::programs(s);
     refusals::check(
         pushed_all(op.count, moved, programs.len),
-        Refusal::Unexpected,
+        Err(Refusal::Unexpected),
     )?;
-    refusals::check(queue::is_full(programs), Refusal::QueueFull)?;
+    refusals::check(queue::is_full(programs), Err(Refusal::QueueFull))?;
     registers::put_programs(s, queue::push(programs, word));
     Ok(())
 }
@@ -43,8 +43,8 @@ pub fn push(s: &mut Registers, word: u32) -> Answer
 pub fn pop(s: &mut Registers) -> Result<u32, Refusal>
     ensures { record { told = told_word result; registers = s.new } ≡ pop_in s.old }
 {
-    refusals::check(!validity::valid(s), Refusal::Invalid)?;
-    refusals::check(registers::read_count(s) == 0, Refusal::QueueEmpty)?;
+    refusals::check(!validity::valid(s), Err(Refusal::Invalid))?;
+    refusals::check(registers::read_count(s) == 0, Err(Refusal::QueueEmpty))?;
     let reads = registers::reads(s);
     let word = queue::oldest(reads);
     registers::put_reads(s, queue::pop(reads));

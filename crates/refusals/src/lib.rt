@@ -83,10 +83,10 @@ pub fn is_recorded(n: u8) -> bool
 }
 
 // A check: the refusal if its test holds.
-pub fn check(test: bool, refusal: Refusal) -> Answer
+pub fn check(test: bool, refusal: Answer) -> Answer
     ensures { result ≡ check test refusal }
 {
-    if test { Err(refusal) } else { Ok(()) }
+    if test { refusal } else { Ok(()) }
 }
 
 // The first of two checks that applies.
@@ -129,7 +129,7 @@ pub fn phase_answer(p: Phase) -> Answer
 pub fn ready_answer(valid: bool, p: Phase) -> Answer
     ensures { result ≡ ready_answer valid p }
 {
-    check(!valid, Refusal::Invalid).and(phase_answer(p))
+    check(!valid, Err(Refusal::Invalid)).and(phase_answer(p))
 }
 
 // ---- the error record

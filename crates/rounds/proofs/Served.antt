@@ -33,7 +33,7 @@ use Rattle.calls.specs.declared.ToldHostTurn.{ToldHostTurn}
 use Rattle.calls.specs.declared.ToldRound.{ToldRound}
 use Rattle.validity.specs.Ready.{Ready}
 use Rattle.steps.proofs.Left.{step_early}
-use Rattle.host.proofs.Hosted.{read_early}
+use Rattle.host.proofs.Hosted.{answered_early, read_early}
 use Rattle.rounds.specs.Turns.{Going, Contested, contends, served_host, served_step, unserved_host, unserved_step, refused_both}
 use Rattle.rounds.proofs.Going.{going_stands, going_encoded, unready_alone, ready_competes}
 
@@ -135,9 +135,17 @@ module _ {s : List ℕ} {f : Flash} {bank : ℕ} (h : Contested s f bank) where
       → round_left s (host_goes (decode s) f a) ≡ round_left s (contest (decode s) f a)
   left_contest_host a t = rw (rw lost_there at t)
 
+  pub answer_contest_host : (a : ByteAddress) → ltb (get_or s (lost_from + bank) 0) lost_limit ≡ true
+      → (host_goes (decode s) f a).result.host.answer ≡ (contest (decode s) f a).result.host.answer
+  answer_contest_host a t = rw (rw lost_there at t)
+
   pub left_contest_step : (a : ByteAddress) → ltb (get_or s (lost_from + bank) 0) lost_limit ≡ false
       → round_left s (step_goes (decode s) f) ≡ round_left s (contest (decode s) f a)
   left_contest_step a t = rw (rw lost_there at t)
+
+  pub answer_contest_step : (a : ByteAddress) → ltb (get_or s (lost_from + bank) 0) lost_limit ≡ false
+      → (step_goes (decode s) f).result.host.answer ≡ (contest (decode s) f a).result.host.answer
+  answer_contest_step a t = rw (rw lost_there at t)
 
 -- ---- both are asked
 
@@ -147,6 +155,11 @@ module _ (s : List ℕ) (f : Flash) (a : ByteAddress) where
       → record { told = refused_both (Err e); registers = s; flash = f } ≡ round_in s f (Some a) true
   unfolding round_in round
   asked_refused w = rw (unready_alone s f a (rw w)) (left_refused s f a w)
+
+  pub answer_refused : {e : Refusal} → ready_answer (valid_with (decode s) f) (decode s).phase ≡ Err e
+      → Err e ≡ (round (decode s) f (Some a) true).result.host.answer
+  unfolding round host_read
+  answer_refused w = rw (unready_alone s f a (rw w)) (answered_early s f a w)
 
   -- or not: in one bank they compete,
   module _ {done : Unit} (w : ready_answer (valid_with (decode s) f) (decode s).phase ≡ Ok done) where
@@ -163,7 +176,15 @@ module _ (s : List ℕ) (f : Flash) (a : ByteAddress) where
     unfolding round_in round
     asked_contest h = rw (competing h)
 
+    pub answer_contest : contends s a ≡ true → (contest (decode s) f a).result.host.answer ≡ (round (decode s) f (Some a) true).result.host.answer
+    unfolding round
+    answer_contest h = rw (competing h)
+
     -- in two both are served.
     pub asked_both : contends s a ≡ false → round_left s (both_go (decode s) f a) ≡ round_in s f (Some a) true
     unfolding round_in round
     asked_both h = rw (competing h)
+
+    pub answer_both : contends s a ≡ false → (both_go (decode s) f a).result.host.answer ≡ (round (decode s) f (Some a) true).result.host.answer
+    unfolding round
+    answer_both h = rw (competing h)

@@ -1,19 +1,28 @@
--- What the sides of a round are told, as numbers, and when they compete. (house)
-use Rattle.std.specs.Prelude.{ℕ, ◌≤◌, ◌≡◌, Bool, true, ◌&&◌, List, eqb, get_or}
+-- How the sides of a round are answered, and told as numbers, and when they compete. (house)
+use Rattle.std.specs.Prelude.{ℕ, ◌≤◌, ◌≡◌, Bool, true, ◌&&◌, List, eqb, get_or, Result}
 use Rattle.model.specs.Geometry.{page_of, bank_of}
 use Rattle.model.specs.State.{Flash}
 use Rattle.model.specs.Refusals.{no_decider, number_of}
 use Rattle.model.specs.Rounds.{goes, would_move, next_bank}
 use Rattle.model.specs.declared.ByteAddress.{ByteAddress}
-use Rattle.model.specs.Refusals.{Answer}
+use Rattle.model.specs.Refusals.{Answer, accepted}
+use Rattle.model.specs.declared.Refusal.{Refusal}
 use Rattle.registers.specs.Layout.{pages_at}
 use Rattle.registers.specs.Registers.{progress_at, stands_for, decode}
-use Rattle.calls.specs.Calls.{told_host_word}
+use Rattle.calls.specs.Calls.{answer_of, told_host_word}
+use Rattle.calls.specs.declared.Side.{Side}
+use Rattle.calls.specs.declared.Side.TheVariants as side
 use Rattle.calls.specs.declared.ToldHostWord.{ToldHostWord}
 use Rattle.calls.specs.declared.ToldStep.{ToldStep}
 use Rattle.calls.specs.declared.ToldHostTurn.{ToldHostTurn}
 use Rattle.calls.specs.declared.ToldStepTurn.{ToldStepTurn}
 use Rattle.calls.specs.declared.ToldRound.{ToldRound}
+
+-- The answer to a side: accepted where it asked nothing or waits. A step's is never 9, so its number says already which it is.
+abbrev pub side_answer : {A : Type 0} → Side (Result A Refusal) → Answer
+side_answer side.Unasked = accepted
+side_answer side.Waiting = accepted
+side_answer (side.Served r) = answer_of r
 
 abbrev pub unserved_host : ℕ → ToldHostTurn
 unserved_host turn = record { turn = turn; answer = 0; decider = no_decider; word = 0 }

@@ -4,12 +4,12 @@
 ghost use Rattle.std.specs.Prelude.{◌≡◌, true, ◌+◌, ◌≤◌, ltb, get_or};
 ghost use Rattle.model.specs.State.{flash};
 ghost use Rattle.model.specs.Valid.{lost_limit};
-ghost use Rattle.model.specs.Rounds.{goes, would_move, next_bank, host_alone, step_alone, host_goes, step_goes, contest, both_go};
+ghost use Rattle.model.specs.Rounds.{goes, would_move, next_bank, host_alone, step_alone, host_goes, step_goes, contest, both_go, round};
 ghost use Rattle.registers.specs.Layout.{lost_from};
 ghost use Rattle.registers.specs.Registers.{progress_at, stands_for, decode};
 ghost use Rattle.calls.specs.Calls.{told_round, round_left, round_in};
 ghost use Rattle.validity.specs.Ready.{Ready, Judged};
-ghost use Rattle.rounds.specs.Turns.{Going, Contested, contends, refused_both};
+ghost use Rattle.rounds.specs.Turns.{Going, Contested, contends, side_answer, refused_both};
 
 use calls::{Round, Side};
 use model::{ByteAddress, HostRequest, LOST_LIMIT, Refusal};
@@ -54,7 +54,8 @@ fn competes(s: &Registers, at: ByteAddress) -> bool
 
 // A lone turn leaves the count.
 fn step_alone(s: &mut Registers, image: &mut [u32]) -> Round
-    ensures { record { told = told_round result; registers = s.new; flash = flash image.new } ≡ round_left s.old (step_alone (decode s.old) (flash image.old)) }
+    ensures answer { side_answer result.host ≡ (step_alone (decode s.old) (flash image.old)).result.host.answer }
+    ensures left { record { told = told_round result; registers = s.new; flash = flash image.new } ≡ round_left s.old (step_alone (decode s.old) (flash image.old)) }
 {
     let stepped = steps::step(s, image);
     Round {
@@ -63,8 +64,10 @@ fn step_alone(s: &mut Registers, image: &mut [u32]) -> Round
     }
 }
 
+#[tactic(auto, unfolding(model::specs::Host::host_read))]
 fn host_alone(s: &Registers, image: &[u32], at: ByteAddress) -> Round
-    ensures { record { told = told_round result; registers = s.now; flash = flash image.now } ≡ round_left s.now (host_alone (decode s.now) (flash image.now) at) }
+    ensures answer { side_answer result.host ≡ (host_alone (decode s.now) (flash image.now) at).result.host.answer }
+    ensures left { record { told = told_round result; registers = s.now; flash = flash image.now } ≡ round_left s.now (host_alone (decode s.now) (flash image.now) at) }
 {
     let word = host::host_read(s, image, at);
     Round {
@@ -74,10 +77,12 @@ fn host_alone(s: &Registers, image: &[u32], at: ByteAddress) -> Round
 }
 
 // The host goes first, and its bank's lost count rises by one.
+#[tactic(auto, unfolding(model::specs::Host::host_read))]
 fn host_goes(s: &mut Registers, image: &[u32], at: ByteAddress, bank: usize) -> Round
     requires contested { Contested s.old (flash image.now) bank }
     requires below { ltb (get_or s.old (lost_from + bank) 0) lost_limit ≡ true }
-    ensures { record { told = told_round result; registers = s.new; flash = flash image.now } ≡ round_left s.old (host_goes (decode s.old) (flash image.now) at) }
+    ensures answer { side_answer result.host ≡ (host_goes (decode s.old) (flash image.now) at).result.host.answer }
+    ensures left { record { told = told_round result; registers = s.new; flash = flash image.now } ≡ round_left s.old (host_goes (decode s.old) (flash image.now) at) }
 {
     let word = host::ready_read(s, image, at);
     let lost = registers::lost(s, bank);
@@ -91,7 +96,8 @@ fn host_goes(s: &mut Registers, image: &[u32], at: ByteAddress, bank: usize) -> 
 // The controller goes instead, and the count returns to 0.
 fn step_goes(s: &mut Registers, image: &mut [u32], bank: usize) -> Round
     requires { Contested s.old (flash image.old) bank }
-    ensures { record { told = told_round result; registers = s.new; flash = flash image.new } ≡ round_left s.old (step_goes (decode s.old) (flash image.old)) }
+    ensures answer { side_answer result.host ≡ (step_goes (decode s.old) (flash image.old)).result.host.answer }
+    ensures left { record { told = told_round result; registers = s.new; flash = flash image.new } ≡ round_left s.old (step_goes (decode s.old) (flash image.old)) }
 {
     let stepped = steps::ready_step(s, image);
     registers::put_lost(s, bank, 0);
@@ -103,7 +109,8 @@ fn step_goes(s: &mut Registers, image: &mut [u32], bank: usize) -> Round
 
 fn contest(s: &mut Registers, image: &mut [u32], at: ByteAddress) -> Round
     requires { would_move (decode s.old) (flash image.old) ≡ true }
-    ensures { record { told = told_round result; registers = s.new; flash = flash image.new } ≡ round_left s.old (contest (decode s.old) (flash image.old) at) }
+    ensures answer { side_answer result.host ≡ (contest (decode s.old) (flash image.old) at).result.host.answer }
+    ensures left { record { told = told_round result; registers = s.new; flash = flash image.new } ≡ round_left s.old (contest (decode s.old) (flash image.old) at) }
 {
     let bank = next_bank(s) as usize;
     if registers::lost(s, bank) < LOST_LIMIT {
@@ -113,9 +120,11 @@ fn contest(s: &mut Registers, image: &mut [u32], at: ByteAddress) -> Round
 }
 
 // Both are served, host first.
+#[tactic(auto, unfolding(model::specs::Host::host_read))]
 fn both_go(s: &mut Registers, image: &mut [u32], at: ByteAddress) -> Round
     requires { Ready s.old (flash image.old) }
-    ensures { record { told = told_round result; registers = s.new; flash = flash image.new } ≡ round_left s.old (both_go (decode s.old) (flash image.old) at) }
+    ensures answer { side_answer result.host ≡ (both_go (decode s.old) (flash image.old) at).result.host.answer }
+    ensures left { record { told = told_round result; registers = s.new; flash = flash image.new } ≡ round_left s.old (both_go (decode s.old) (flash image.old) at) }
 {
     let word = host::ready_read(s, image, at);
     let stepped = steps::ready_step(s, image);
@@ -127,7 +136,8 @@ fn both_go(s: &mut Registers, image: &mut [u32], at: ByteAddress) -> Round
 
 // Checks 1 to 3 refuse both.
 fn both_refused(refusal: Refusal) -> Round
-    ensures { told_round result ≡ refused_both (Err refusal) }
+    ensures answer { side_answer result.host ≡ Err refusal }
+    ensures told { told_round result ≡ refused_both (Err refusal) }
 {
     Round {
         host: Side::Served(Err(refusal)),
@@ -138,7 +148,8 @@ fn both_refused(refusal: Refusal) -> Round
 // Both are asked: checks 1 to 3 are made once, for both.
 #[tactic(auto, using(crate::proofs::Served::asked_refused, crate::proofs::Served::asked_ready))]
 fn both_asked(s: &mut Registers, image: &mut [u32], at: ByteAddress) -> Round
-    ensures { record { told = told_round result; registers = s.new; flash = flash image.new } ≡ round_in s.old (flash image.old) (Some at) true }
+    ensures answer { side_answer result.host ≡ (round (decode s.old) (flash image.old) (Some at) true).result.host.answer }
+    ensures left { record { told = told_round result; registers = s.new; flash = flash image.new } ≡ round_in s.old (flash image.old) (Some at) true }
 {
     match validity::ready_with(s, image) {
         Err(refusal) => both_refused(refusal),
@@ -155,7 +166,8 @@ fn both_asked(s: &mut Registers, image: &mut [u32], at: ByteAddress) -> Round
 // What the host asks, and whether the step is asked.
 #[tactic(auto, unfolding(calls::specs::Calls::round_in, model::specs::Rounds::round))]
 pub fn round(s: &mut Registers, image: &mut [u32], host: HostRequest, step: bool) -> Round
-    ensures { record { told = told_round result; registers = s.new; flash = flash image.new } ≡ round_in s.old (flash image.old) host step }
+    ensures answer { side_answer result.host ≡ (round (decode s.old) (flash image.old) host step).result.host.answer }
+    ensures left { record { told = told_round result; registers = s.new; flash = flash image.new } ≡ round_in s.old (flash image.old) host step }
 {
     match (host, step) {
         (None, false) => Round {

@@ -5,10 +5,11 @@ use Prim.Native.Nat.{ℕ, ◌*◌}
 use lib.ListN.{replicate, set}
 use Rattle.std.proofs.Common.{Ok, Err}
 use Rattle.numbers.specs.Number.{continued, last_group, groups_value, shortest, number_between, number_at, limited, number_to, then_number}
+use Rattle.scan_queue.specs.declared.ScanRefusal.{ScanRefusal}
 use Rattle.scan_queue.specs.declared.ScanRefusal.TheVariants.{Full, BadScan, NoScan}
 use Rattle.scan_queue.specs.Payload.{Scan, max_serial, groups, bytes_of, words_of, all, serial_in, length_in, body_of, payload_of, written}
 use Rattle.scan_queue.specs.Slots.{Entry, Unused, Dead, Waiting, Taken, Odd, blank, words_at, slot_at, slots_from, places, entries, insert, sorted, queue, highest}
-use Rattle.scan_queue.specs.Decisions.{Refused, Puts, Erases, first_unused, none_waits, write, take_oldest}
+use Rattle.scan_queue.specs.Decisions.{Decision, Refused, Puts, Erases, refusal_of, first_unused, none_waits, write, take_oldest}
 
 abbrev pub scan : ℕ → List ℕ → Scan
 scan n l = record { serial = n; bytes = l }
@@ -83,10 +84,14 @@ dead n = replicate (16 * n) 0
 crowded : List ℕ
 crowded = slot blank 1 ++ dead 30 ++ slot blank 2
 
-refused : (write crowded 0 256 (7 ∷ []) ≡ Refused Full) × (write crowded 0 256 [] ≡ Refused BadScan) × (write crowded 0 256 (replicate 49 7) ≡ Refused BadScan)
-    × (write (0 ∷ blank ∷ words_of (written (scan max_serial (7 ∷ []))) ++ blanks 31) 0 256 (7 ∷ []) ≡ Refused BadScan) × (take_oldest (blanks 32) 0 256 ≡ Refused NoScan)
+-- Refused by this refusal, which has this number.
+abbrev refused_by : Decision → ScanRefusal → ℕ → Type 0
+refused_by d r n = (d ≡ Refused r) × (refusal_of d ≡ n)
+
+refused : refused_by (write crowded 0 256 (7 ∷ [])) Full 17 × refused_by (write crowded 0 256 []) BadScan 18 × refused_by (write crowded 0 256 (replicate 49 7)) BadScan 18
+    × refused_by (write (0 ∷ blank ∷ words_of (written (scan max_serial (7 ∷ []))) ++ blanks 31) 0 256 (7 ∷ [])) BadScan 18 × refused_by (take_oldest (blanks 32) 0 256) NoScan 19
 unfolding continued last_group groups_value shortest number_between number_at limited number_to then_number bytes_of all serial_in length_in body_of payload_of words_at slot_at groups words_of written slots_from places highest first_unused none_waits write entries sorted queue take_oldest blanks dead crowded
-refused = (refl, refl, refl, refl, refl)
+refused = ((refl, refl), (refl, refl), (refl, refl), (refl, refl), (refl, refl))
 
 -- The lower page is erased if nothing waits there, dead slots or not, and the higher one only if something does.
 chosen : (write (dead 32) 0 256 (7 ∷ []) ≡ Erases 0 (scan 1 (7 ∷ []))) × (write (slot blank 1 ++ dead 31) 0 256 (7 ∷ []) ≡ Erases 256 (scan 2 (7 ∷ [])))

@@ -85,13 +85,6 @@ struct Flash {
 }
 
 impl Flash {
-    fn filled(word: u32) -> Self {
-        Flash {
-            registers: [0; registers::COUNT],
-            image: [word; WORDS],
-        }
-    }
-
     fn power_on(&mut self, rt: &impl Print) -> io::Result<()> {
         let _ = lifecycle::reset(&mut self.registers, PAGES);
         let _ = settings::set_default(&mut self.registers, ALL_RIGHTS);
@@ -163,9 +156,16 @@ impl Flash {
 }
 
 fn main(rt: HostRuntime) -> io::Result<()> {
-    let mut flash = Flash::filled(ERASED);
+    let mut flash = Flash {
+        registers: [0; registers::COUNT],
+        image: [ERASED; WORDS],
+    };
     flash.power_on(&rt)?;
     flash.refusals(&rt)?;
     flash.before_the_seal(&rt)?;
-    Flash::filled(0).in_the_erase(&rt)
+    let mut dead = Flash {
+        registers: [0; registers::COUNT],
+        image: [0; WORDS],
+    };
+    dead.in_the_erase(&rt)
 }

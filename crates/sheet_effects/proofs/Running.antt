@@ -1,5 +1,5 @@
 -- A run, entry by entry: what the first of them leave. Assumes nothing.
-use mathlib.Core.Path.{◌≡◌, refl, sym, ap, ◌∙◌}
+use mathlib.Core.Path.{◌≡◌, refl, ap, ◌∙◌}
 use mathlib.Core.List.{List, [], ◌∷◌, ◌++◌, append-nil}
 use Prim.Native.Nat.{ℕ, ◌+◌, ◌*◌, ◌≤◌, ◌<◌}
 use native.Mathlib.Omega.{arith}
@@ -13,7 +13,7 @@ use Rattle.calls.specs.Calls.{Left, reset_in, initialise_in}
 use Rattle.sheets.specs.declared.Request.{Request}
 use Rattle.sheets.specs.declared.Request.TheVariants.{Whole, Rights}
 use Rattle.std.proofs.Common.{Option, None, Some, Ok, Err}
-use Rattle.sheets.specs.Sheet.{block_at, places_of, verdict_of, expanded, request_at}
+use Rattle.sheets.specs.Sheet.{verdict_of, expanded, request_at}
 use Rattle.sheets.proofs.Counting.{good_runs, bad_runs, expanded_few}
 use Rattle.sheets.proofs.Loading.{sets_append}
 use Rattle.sheet_effects.specs.declared.Line.{Line}
@@ -87,17 +87,19 @@ module _ {sheet s₀ : List ℕ} {f₀ : Flash} {row₀ : List ℕ} where
 -- ---- a good sheet
 
 module _ (sheet : List ℕ) (k : ℕ) (good : Ok k ≡ verdict_of sheet) where
-  -- Its expansion is what runs.
-  pub runs_all : {places : List ℕ} → places ≡ places_of (block_at sheet 0 0) → places ≡ expanded sheet
-  runs_all e = e ∙ sym (good_runs sheet k good).0
+  pub runs_few : k ≤ 4096
+  runs_few = (good_runs sheet k good).2
+
+  pub runs_there : (i : ℕ) → i < k → i < length (expanded sheet)
+  runs_there i h = rw (← (good_runs sheet k good).1) h
 
   -- All of them have run.
   pub run_good : {s₀ : List ℕ} {f₀ : Flash} {row₀ : List ℕ} {i : ℕ} {s : List ℕ} {f : Flash} {row : List ℕ} {n : ℕ}
-      → i ≡ length (expanded sheet) → Running sheet s₀ f₀ row₀ i s f row n
+      → i ≡ k → Running sheet s₀ f₀ row₀ i s f row n
       → ◌≡◌ {A = SheetLeaves} (record { told = record { verdict = Ok k; numbers = n }; registers = s; flash = f; row = row }) (run s₀ f₀ sheet row₀)
   unfolding run
   run_good {s₀} {f₀} {row₀} {i} {s} {f} {row} {n} e r =
-      let all : take i (expanded sheet) ≡ expanded sheet = take_all i (expanded sheet) (omega arith) in
+      let all : take i (expanded sheet) ≡ expanded sheet = take_all i (expanded sheet) (omega (arith, (good_runs sheet k good).1)) in
       let b : ◌≡◌ {A = Bench} (record { registers = s; flash = f; printed = r.printed }) (performed_all sheet (expanded sheet) (unprinted s₀ f₀))
       = r.bench ∙ rw all refl in
       rw (← good, ← b, r.front, r.written) refl

@@ -8,6 +8,7 @@ ghost use Rattle.sheets.specs.Sheet.{verdict_of};
 ghost use Rattle.sheet_effects.specs.Run.{performed, run, bench_run, printed_of};
 
 use calls::ToldBits;
+use expansions::Places;
 use model::ERASED;
 use registers::Registers;
 use sheet_effects::{Line, Ran};
@@ -92,10 +93,11 @@ pub fn run(s: &mut Registers, image: &mut [u32], sheet: &[u8], row: &mut Row) ->
             verdict,
             numbers: 0,
         },
-        Ok(_) => {
-            let places = expansions::expand(sheet);
+        Ok(count) => {
+            let mut places: Places = [0; WIDE_MAX_ENTRIES];
+            expansions::expand(sheet, &mut places);
             let mut n = 0;
-            for place in places.as_slice() {
+            for place in &places[..count as usize] {
                 let line = perform(s, image, sheet, *place);
                 n = write(row, n, line);
             }

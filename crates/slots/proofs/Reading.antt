@@ -20,6 +20,13 @@ words_are (suc n) m p h =
     let l : p < length m = omega arith in
     rw (drop-cons m p 0 l) (ap (λ (k : List ℕ). get_or m p 0 ∷ k) (words_are n m (suc p) (omega arith)))
 
+-- Word by word, past the image's end too.
+pub words_at_lem : (n : ℕ) (m : List ℕ) (p j : ℕ) → j < n → get_or (words_at n m p) j 0 ≡ get_or m (p + j) 0
+unfolding words_at
+words_at_lem zero m p j h = absurd (omega arith)
+words_at_lem (suc n) m p zero h = ap (λ (k : ℕ). get_or m k 0) (omega arith)
+words_at_lem (suc n) m p (suc j) h = words_at_lem n m (suc p) j (omega arith) ∙ ap (λ (k : ℕ). get_or m k 0) (omega arith)
+
 words_long : (n : ℕ) (m : List ℕ) (p : ℕ) → length (words_at n m p) ≡ n
 unfolding words_at
 words_long zero m p = refl

@@ -1,4 +1,5 @@
 -- Where a span lies in one page, that page's ruling is the answer of check 9. Assumes nothing.
+use Rattle.std.specs.Prelude.{Err}
 use Prim.Native.Nat.{ℕ, ◌+◌, ◌-◌, ◌*◌, ◌/◌, ◌%◌, ◌≤◌}
 use native.Mathlib.Nat.{add-zero, min-eq_left, min-zero}
 use native.Mathlib.Omega.{arith}
@@ -47,8 +48,8 @@ module _ (s : Setup) {o : Operation} (p : OnePage o) where
   unfolding decider_of
   named_one g = rw (p.span, allowed_one, g, add-zero)
 
-  pub answer_one : check (not (page_grants s o (page_of (span_start o)))) (Denied (ruling_at s (is_information o) o.info (page_of (span_start o))).decider)
-      ≡ check (denied s o) (Denied (decider_of s o))
+  pub answer_one : check (not (page_grants s o (page_of (span_start o)))) (Err (Denied (ruling_at s (is_information o) o.info (page_of (span_start o))).decider))
+      ≡ check (denied s o) (Err (Denied (decider_of s o)))
   answer_one =
       by_test (page_grants s o (page_of (span_start o))) (λ g. rw (denied_one, g)) (λ g. rw (denied_one, g, named_one g))
 

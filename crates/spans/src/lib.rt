@@ -56,19 +56,19 @@ fn bank_closed(s: &Registers, bank: u32) -> bool
 // Check 9 of a bank erase: its bank's permission decides.
 fn bank_answer(s: &Registers, o: Operation) -> Answer
     requires { is_bank_erase o ≡ true }
-    ensures { result ≡ check (denied (stands_for s.now).setup o) (Refusal.Denied (decider_of (stands_for s.now).setup o)) }
+    ensures { result ≡ check (denied (stands_for s.now).setup o) (Err (Refusal.Denied (decider_of (stands_for s.now).setup o))) }
 {
     let address = o.address;
     let d = registers::pages(s);
     let bank = geometry::bank_of(d, geometry::page_of(address));
     let by = Decider::BankPermission;
-    refusals::check(bank_closed(s, bank), Refusal::Denied(by))
+    refusals::check(bank_closed(s, bank), Err(Refusal::Denied(by)))
 }
 
 // Check 9 of a span within one page: what decides that page decides.
 fn page_answer(s: &Registers, o: Operation) -> Answer
     requires { OnePage o }
-    ensures { result ≡ check (denied (stands_for s.now).setup o) (Refusal.Denied (decider_of (stands_for s.now).setup o)) }
+    ensures { result ≡ check (denied (stands_for s.now).setup o) (Err (Refusal.Denied (decider_of (stands_for s.now).setup o))) }
 {
     let information = places::is_information(o);
     let page = geometry::page_of(places::span_start(o));
@@ -76,14 +76,14 @@ fn page_answer(s: &Registers, o: Operation) -> Answer
     let by = ruling.decider;
     refusals::check(
         !rights::grants(ruling.rights, places::right_needed(o)),
-        Refusal::Denied(by),
+        Err(Refusal::Denied(by)),
     )
 }
 
 // Check 9 of another span: who decides its first denied page is named.
 fn span_answer(s: &Registers, o: Operation) -> Answer
     requires { (is_bank_erase o ≡ false) × (span_words o < 1048576) }
-    ensures { result ≡ check (denied (stands_for s.now).setup o) (Refusal.Denied (decider_of (stands_for s.now).setup o)) }
+    ensures { result ≡ check (denied (stands_for s.now).setup o) (Err (Refusal.Denied (decider_of (stands_for s.now).setup o))) }
 {
     let words = places::span_words(o);
     let allowed = allowed_words(s, o);
@@ -100,7 +100,7 @@ fn span_answer(s: &Registers, o: Operation) -> Answer
 // Check 9.
 pub fn right_answer(s: &Registers, o: Operation) -> Answer
     requires { malformed o ≡ false }
-    ensures { result ≡ check (denied (stands_for s.now).setup o) (Refusal.Denied (decider_of (stands_for s.now).setup o)) }
+    ensures { result ≡ check (denied (stands_for s.now).setup o) (Err (Refusal.Denied (decider_of (stands_for s.now).setup o))) }
 {
     if places::is_bank_erase(o) {
         return bank_answer(s, o);

@@ -1,6 +1,7 @@
 // One case: an operation by steps, and the same as a whole, each from its own copy of the state.
 use super::asked::Asked;
 use super::drive::{Flash, Run};
+use super::given::{ONES, WORDS};
 use registers::Registers;
 use std::io;
 
@@ -17,7 +18,10 @@ pub fn case_on(rt: &impl Print, flash: &mut Flash, again: &mut Flash, o: Asked) 
 }
 
 pub fn case(rt: &impl Print, s: &Registers, o: Asked) -> io::Result<()> {
-    let mut flash = Flash::blank(s);
+    let mut flash = Flash {
+        registers: *s,
+        image: [ONES; WORDS],
+    };
     let mut again = flash;
     case_on(rt, &mut flash, &mut again, o)
 }

@@ -26,7 +26,14 @@ fn view(rt: &impl Print, s: &Registers, page: u32) -> io::Result<()> {
 // A host read, by itself and in a round, and a view.
 fn host(rt: &impl Print, s: &Registers, at: u32) -> io::Result<()> {
     host_read(rt, s, at)?;
-    round(rt, &mut Flash::blank(s), host_alone(at))?;
+    round(
+        rt,
+        &mut Flash {
+            registers: *s,
+            image: [ONES; WORDS],
+        },
+        host_alone(at),
+    )?;
     view(rt, s, at / PAGE_BYTES)
 }
 

@@ -53,14 +53,6 @@ pub struct Flash {
 }
 
 impl Flash {
-    // An image of ones.
-    pub fn blank(s: &Registers) -> Self {
-        Flash {
-            registers: *s,
-            image: [ONES; WORDS],
-        }
-    }
-
     pub fn start(&mut self, o: Asked) -> Answered {
         start(&mut self.registers, o)
     }

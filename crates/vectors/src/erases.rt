@@ -2,6 +2,7 @@
 use super::asked::{Asked, Kind, data, information};
 use super::cases::{case_on, cases};
 use super::drive::Flash;
+use super::given::{ONES, WORDS};
 use registers::Registers;
 use std::io;
 
@@ -51,7 +52,10 @@ fn bank_erase(rt: &impl Print, flash: &Flash, o: Asked) -> io::Result<()> {
 }
 
 pub fn erases(rt: &impl Print, s: &Registers) -> io::Result<()> {
-    let mut flash = Flash::blank(s);
+    let mut flash = Flash {
+        registers: *s,
+        image: [ONES; WORDS],
+    };
     zeros(rt, &mut flash)?;
     bank_erase(rt, &flash, data(Kind::BankErase, 0x0000, 0))?;
     bank_erase(rt, &flash, information(Kind::BankErase, 0, 0x0000, 0))?;

@@ -51,7 +51,10 @@ pub fn lengths(rt: &impl Print) -> io::Result<()> {
 // ---- where the creator page and bank 1 begin
 
 fn first_changed(rt: &impl Print, s: &Registers, o: Asked) -> io::Result<()> {
-    let mut flash = Flash::blank(s);
+    let mut flash = Flash {
+        registers: *s,
+        image: [ONES; WORDS],
+    };
     let answer = flash.by_steps(o, 0).answer;
     let first = flash.first_with_zeros();
     println!(rt; "{o}: {answer}, first changed bus word {first}")

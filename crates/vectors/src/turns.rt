@@ -1,6 +1,7 @@
 // Turns of host and step (document 02, L1).
 use super::asked::{Asked, Kind, data};
 use super::drive::Flash;
+use super::given::{ONES, WORDS};
 use super::told::Round;
 use model::ByteAddress;
 use registers::Registers;
@@ -104,7 +105,10 @@ fn at_5(rt: &impl Print, flash: &mut Flash) -> io::Result<()> {
 }
 
 fn polled(rt: &impl Print, s: &Registers) -> io::Result<()> {
-    let mut erasing = Flash::blank(s);
+    let mut erasing = Flash {
+        registers: *s,
+        image: [ONES; WORDS],
+    };
     let _ = erasing.as_a_whole(data(Kind::Program, 0x0000, 1), 0x1234_5678);
     start(rt, &mut erasing, data(Kind::PageErase, 0x0000, 0))?;
     until_served(rt, &mut erasing)?;
@@ -116,19 +120,25 @@ fn polled(rt: &impl Print, s: &Registers) -> io::Result<()> {
 
 // An address past the end counts as bank 1.
 fn past_the_end(rt: &impl Print, s: &Registers) -> io::Result<()> {
-    let mut erasing = Flash::blank(s);
+    let mut erasing = Flash {
+        registers: *s,
+        image: [ONES; WORDS],
+    };
     start(rt, &mut erasing, data(Kind::PageErase, 0x4000, 0))?;
     round(rt, &mut erasing, both(0x8000))
 }
 
 // A step that would wait or be refused does not compete.
 fn no_contest(rt: &impl Print, s: &Registers) -> io::Result<()> {
-    let mut waiting = Flash::blank(s);
-    start(rt, &mut waiting, data(Kind::Program, 0x0000, 1))?;
-    round(rt, &mut waiting, both(0x0000))?;
-    let mut idle = Flash::blank(s);
+    let mut flash = Flash {
+        registers: *s,
+        image: [ONES; WORDS],
+    };
+    start(rt, &mut flash, data(Kind::Program, 0x0000, 1))?;
+    round(rt, &mut flash, both(0x0000))?;
+    flash.registers = *s;
     println!(rt; "nothing in progress")?;
-    rounds(rt, &mut idle, &[both(0x0000), NOBODY])
+    rounds(rt, &mut flash, &[both(0x0000), NOBODY])
 }
 
 pub fn turns(rt: &impl Print, s: &Registers) -> io::Result<()> {

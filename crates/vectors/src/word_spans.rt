@@ -33,7 +33,10 @@ fn program(rt: &impl Print, flash: &mut Flash, way: Way, word: u32) -> io::Resul
 
 pub fn words(rt: &impl Print, s: &Registers) -> io::Result<()> {
     for way in [Way::Steps, Way::Whole] {
-        let mut flash = Flash::blank(s);
+        let mut flash = Flash {
+            registers: *s,
+            image: [ONES; WORDS],
+        };
         program(rt, &mut flash, way, 0x1234_5678)?;
         program(rt, &mut flash, way, 0xFFFF_0000)?;
     }

@@ -12,6 +12,7 @@ use Rattle.model.specs.Refusals.{number_of, accepts, check, ready_answer}
 use Rattle.model.specs.Checks.{operation_answer}
 use Rattle.model.specs.Errors.{is_recorded, recorded, error_address}
 use Rattle.model.specs.Valid.{both_empty, valid, valid_with}
+use Rattle.model.specs.Steps.{start}
 use Rattle.model.specs.Whole.{whole_answer, short_buffer, whole, leaving}
 use Rattle.model.specs.declared.BusWord.{BusWord}
 use Rattle.model.specs.declared.Errors.{Errors}
@@ -24,6 +25,7 @@ use Rattle.model.specs.declared.Refusal.TheVariants.{Busy, ShortBuffer}
 use Rattle.model.proofs.Answers.{recorded_if_refused, both_accept}
 use Rattle.model.proofs.Moving.{with_valid}
 use Rattle.model.proofs.Accepting.{ready_valid}
+use Rattle.model.proofs.Free.{whole_free, free_start, drive_answers}
 use Rattle.plans.specs.Plan.{Reads, Programs, Erases, Recorded, plan_of, plan_answered, performed, delivered_at, stored_all, changed_all, programming, erasing}
 use Rattle.plans.proofs.Cases.{early_unrecorded}
 use Rattle.plans.proofs.ClosedFormProof.{closed_form}
@@ -45,11 +47,11 @@ module _ (s : List ℕ) (f : Flash) where
 
   -- otherwise what is in progress and the queues are read where they lie.
   pub ready : {done : Unit} → ready_answer (valid_with (decode s) f) (decode s).phase ≡ Ok done
-      → check (is_busy (progress_at s) || not (eqb (queue_at s reads_from).len 0 && eqb (queue_at s programs_from).len 0)) Busy ≡ whole_answer (decode s) f
+      → check (is_busy (progress_at s) || not (eqb (queue_at s reads_from).len 0 && eqb (queue_at s programs_from).len 0)) (Err Busy) ≡ whole_answer (decode s) f
   unfolding whole_answer stands_for
   ready w =
       let same = taken_stands s (with_valid (decode s) f (ready_valid (valid_with (decode s) f) (decode s).phase (rw w))) in
-      rw w (ap (λ (c : Controller). check (is_busy c.progress || not (both_empty c.queues)) Busy) (sym same))
+      rw w (ap (λ (c : Controller). check (is_busy c.progress || not (both_empty c.queues)) (Err Busy)) (sym same))
 
 -- An empty queue has its 16 places.
 empty_places : length empty_queue.words ≡ 16
@@ -68,12 +70,20 @@ module _ (s : List ℕ) (f : Flash) (o : Operation) (b : List ℕ) where
       let stops : whole (decode s) f o b ≡ leaving (decode s) (whole_answer (decode s) f) 0 f b = closed_form (decode s) f o b ∙ rw refused in
       rw (stops, refused, early_unrecorded (decode s) f, w)
 
+  pub answer_refused : {e : Refusal} → whole_answer (decode s) f ≡ Err e → Err e ≡ (whole (decode s) f o b).result.answer
+  unfolding whole
+  answer_refused w = rw w
+
   module _ (free : accepts (whole_answer (decode s) f) ≡ true) where
     -- or by 6, it changes nothing.
     pub run_short : short_buffer o b ≡ true
         → record { told = told_bits (Err ShortBuffer) 0; registers = s; flash = f; buffer = b } ≡ whole_in s f o b
     unfolding whole_in plan_of performed
     run_short h = rw (closed_form (decode s) f o b, free, h)
+
+    pub answer_short : short_buffer o b ≡ true → Err ShortBuffer ≡ (whole (decode s) f o b).result.answer
+    unfolding whole
+    answer_short h = rw (free, h)
 
     is_valid : valid (decode s) ≡ true
     unfolding whole_answer
@@ -98,6 +108,12 @@ module _ (s : List ℕ) (f : Flash) (o : Operation) (b : List ℕ) where
         let plan : whole (stands_for s) f o b ≡ performed (stands_for s) f o b (plan_answered (setup_of s) o (operation_answer (setup_of s) o)) =
         closed_form (stands_for s) f o b ∙ rw (stands, h) in
         ap (whole_left s) (sym plan) ∙ ap (λ (c : Controller). whole_left s (whole c f o b)) (sym same)
+
+    pub answer_answered : short_buffer o b ≡ false → operation_answer (setup_of s) o ≡ (whole (decode s) f o b).result.answer
+    unfolding whole stands_for
+    answer_answered h =
+        rw (free, h, drive_answers (decode s).setup.pages o (start (decode s) o) f b, free_start (decode s) o (whole_free (decode s) f free))
+        (ap (λ (c : Controller). operation_answer c.setup o) (sym same))
 
 -- ---- what each plan leaves
 

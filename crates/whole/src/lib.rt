@@ -7,7 +7,7 @@ ghost use Rattle.model.specs.Refusals.{accepted, accepts};
 ghost use Rattle.model.specs.Queue.{empty_queue};
 ghost use Rattle.model.specs.Places.{total_words};
 ghost use Rattle.model.specs.Checks.{operation_answer};
-ghost use Rattle.model.specs.Whole.{whole_answer, short_buffer};
+ghost use Rattle.model.specs.Whole.{whole_answer, short_buffer, whole};
 ghost use Rattle.plans.specs.Plan.{places_of, delivered_at, plan_started, plan_answered, performed};
 ghost use Rattle.registers.specs.Layout.{reads_from};
 ghost use Rattle.registers.specs.Registers.{setup_of, stands_for, decode, put_queue};
@@ -29,7 +29,7 @@ pub fn whole_answer(s: &Registers, image: &[u32]) -> Answer
     let busy = registers::progress(s).is_some();
     let reads = registers::read_count(s) == 0;
     let programs = registers::program_count(s) == 0;
-    refusals::check(busy | !(reads & programs), Refusal::Busy)
+    refusals::check(busy | !(reads & programs), Err(Refusal::Busy))
 }
 
 // Only an operation that passes check 5 comes to check 6.
@@ -80,7 +80,8 @@ fn answered(
     answer: Answer,
 ) -> Result<u32, Refusal>
     requires { Admitted s.old (flash image.old) o buffer.old × (answer ≡ operation_answer (setup_of s.old) o) }
-    ensures { record { told = told_bits (answer_of result) (or_zero result); registers = s.new; flash = flash image.new; buffer = buffer.new } ≡ whole_left s.old (performed (stands_for s.old) (flash image.old) o buffer.old (plan_answered (setup_of s.old) o answer)) }
+    ensures answer { answer_of result ≡ answer }
+    ensures left { record { told = told_bits (answer_of result) (or_zero result); registers = s.new; flash = flash image.new; buffer = buffer.new } ≡ whole_left s.old (performed (stands_for s.old) (flash image.old) o buffer.old (plan_answered (setup_of s.old) o answer)) }
 {
     match answer {
         Ok(()) => Ok(started(s, image, o, buffer)),
@@ -106,10 +107,11 @@ pub fn run(
     o: Operation,
     buffer: &mut [u32],
 ) -> Result<u32, Refusal>
-    ensures { record { told = told_bits (answer_of result) (or_zero result); registers = s.new; flash = flash image.new; buffer = buffer.new } ≡ whole_in s.old (flash image.old) o buffer.old }
+    ensures answer { answer_of result ≡ (whole (decode s.old) (flash image.old) o buffer.old).result.answer }
+    ensures left { record { told = told_bits (answer_of result) (or_zero result); registers = s.new; flash = flash image.new; buffer = buffer.new } ≡ whole_in s.old (flash image.old) o buffer.old }
 {
     whole_answer(s, image)?;
-    refusals::check(short_buffer(o, buffer), Refusal::ShortBuffer)?;
+    refusals::check(short_buffer(o, buffer), Err(Refusal::ShortBuffer))?;
     let answer = answers::operation_answer(s, o);
     answered(s, image, o, buffer, answer)
 }

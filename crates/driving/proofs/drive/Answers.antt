@@ -24,7 +24,7 @@ returns-then-not-starts c =
     let free = rw c.whole_answer-first.ensures at (sym c.accepts.ensures ∙ c.if-not-accepts.false) in
     let room = sym c.short_buffer.ensures ∙ c.if-short_buffer.false in
     rw c.unmoved-then-not-starts.ensures
-    (drive_stops a.steps a.s.now (flash a.image.now) a.o a.buffer.now free room _ c.start-answer.ensures (sym c.starts.ensures ∙ c.if-not-starts.true))
+    (drive_stops a.steps a.s.now (flash a.image.now) a.o a.buffer.now free room _ c.start-answer.ensures.left (sym c.starts.ensures ∙ c.if-not-starts.true))
 
 pub overflow_cast-total : goal.overflow_cast-total
 overflow_cast-total c =
@@ -33,7 +33,7 @@ overflow_cast-total c =
     let room = sym c.short_buffer.ensures ∙ c.if-short_buffer.false in
     let go = sym c.starts.ensures ∙ c.if-not-starts.false in
     let all = rw c.pages-d.ensures at c.total_words-total.ensures in
-    omega (arith, few_total a.steps a.s.now (flash a.image.now) a.o a.buffer.now free room _ c.start-answer.ensures go _ all)
+    omega (arith, few_total a.steps a.s.now (flash a.image.now) a.o a.buffer.now free room _ c.start-answer.ensures.left go _ all)
 
 pub turns-bits-requires : goal.turns-bits-requires
 turns-bits-requires c =
@@ -42,8 +42,8 @@ turns-bits-requires c =
     let room = sym c.short_buffer.ensures ∙ c.if-short_buffer.false in
     let go = sym c.starts.ensures ∙ c.if-not-starts.false in
     let all = rw c.pages-d.ensures at c.total_words-total.ensures in (
-      has_room a.steps a.s.now (flash a.image.now) a.o a.buffer.now free room _ c.start-answer.ensures go _ all _ (omega (arith, c.min-n.ensures)),
-      omega (arith, c.min-n.ensures, few_total a.steps a.s.now (flash a.image.now) a.o a.buffer.now free room _ c.start-answer.ensures go _ all),
+      has_room a.steps a.s.now (flash a.image.now) a.o a.buffer.now free room _ c.start-answer.ensures.left go _ all _ (omega (arith, c.min-n.ensures)),
+      omega (arith, c.min-n.ensures, few_total a.steps a.s.now (flash a.image.now) a.o a.buffer.now free room _ c.start-answer.ensures.left go _ all),
     )
 
 pub returns : goal.returns
@@ -54,7 +54,7 @@ returns c =
     let go = sym c.starts.ensures ∙ c.if-not-starts.false in
     let all = rw c.pages-d.ensures at c.total_words-total.ensures in
     rw (c.flag_of.ensures.0, c.from-told.ensures)
-    (drive_goes a.steps a.s.now (flash a.image.now) a.o a.buffer.now free room _ c.start-answer.ensures go _ all _ c.min-n.ensures
+    (drive_goes a.steps a.s.now (flash a.image.now) a.o a.buffer.now free room _ c.start-answer.ensures.left go _ all _ c.min-n.ensures
     (record {
       registers = c.turns-bits.new.s;
       flash = flash c.turns-bits.new.image;

@@ -10,6 +10,9 @@ decreases-lay_block l = length l.s.now - l.at
 abbrev pub decreases-lay_entry : goal.decreases-lay_entry
 decreases-lay_entry l = length l.s.now - l.next
 
--- As many turns are laid as are over.
-abbrev pub invariant-lay_entry-loop : goal.invariant-lay_entry-loop
-invariant-lay_entry-loop l = Turning (block_at l.s l.inner (l.depth + 1)) l.k l.fn.places l.counter l.places
+-- The first turns after one are laid.
+abbrev pub invariant-lay_entry-loop-again : goal.invariant-lay_entry-loop-again
+invariant-lay_entry-loop-again l = Turning (block_at l.s l.inner (l.depth + 1)) l.further l.initial.count l.initial.places l.again l.places l.count
+
+abbrev pub decreases-lay_entry-loop-again : goal.decreases-lay_entry-loop-again
+decreases-lay_entry-loop-again l = l.further - l.again

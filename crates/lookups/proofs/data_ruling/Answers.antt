@@ -27,7 +27,7 @@ returns-then-decides c =
     ap (λ (g : Region). record { rights = g.rights; decider = by.Region c.loop-i.i }) (sym it)
     ∙ decided region_off (omega arith) c.loop-i.invariant (ap (decides c.args.p) it ∙ sym c.decides.ensures ∙ c.if-decides.true)
 
-pub returns : goal.returns
-returns c =
+pub returns-after-loop-i : goal.returns-after-loop-i
+returns-after-loop-i c =
     let long = regions_length c.args.s.now in
     ap (λ (n : ℕ). record { rights = n; decider = by.Default }) c.default_rights.ensures ∙ undecided_all (omega arith) c.loop-i.invariant

@@ -7,7 +7,7 @@ use borrow.Author.Rules.{rules}
 use borrow.Author.Tests.{lt-ltb, le-ltb}
 use Rattle.model.specs.State.{flash}
 use Rattle.rounds.specs.Turns.{Contested}
-use Rattle.rounds.proofs.Served.{left_contest_host, left_contest_step}
+use Rattle.rounds.proofs.Served.{answer_contest_host, left_contest_host, answer_contest_step, left_contest_step}
 use Rattle.rounds.proofs.contest.Statement.{statement}
 use Rattle.rounds.proofs.contest.Tie as tie
 
@@ -33,11 +33,15 @@ contest_spec =
     (λ c. search rules)
     (λ c.
     let i = c.before.before in
-    c.host_goes.ensures
-    ∙ left_contest_host (found i.before.before) _ (lt-ltb (count i.before.before) 5 (omega (arith, i.lost.ensures))))
+    let below = lt-ltb (count i.before.before) 5 (omega (arith, i.lost.ensures)) in (
+      c.host_goes.ensures.0 ∙ answer_contest_host (found i.before.before) _ below,
+      c.host_goes.ensures.1 ∙ left_contest_host (found i.before.before) _ below,
+    ))
     (λ c κs. found c.before.before.before.before)
     (λ c. search rules)
     (λ c.
     let i = c.before.before.before.before.before in
-    c.step_goes.ensures
-    ∙ left_contest_step (found i.before.before) _ (le-ltb (count i.before.before) 5 (omega (arith, i.lost.ensures)))))
+    let due = le-ltb (count i.before.before) 5 (omega (arith, i.lost.ensures)) in (
+      c.step_goes.ensures.0 ∙ answer_contest_step (found i.before.before) _ due,
+      c.step_goes.ensures.1 ∙ left_contest_step (found i.before.before) _ due,
+    )))

@@ -11,6 +11,6 @@ ready_read-word-requires c = going_ready _ _ c.requires.contested.moves
 pub overflow_add-lost : goal.overflow_add-lost
 overflow_add-lost c = rw c.lost-lost.ensures (omega (arith, ltb-true (get_or c.args.s.now (135 + c.args.bank) 0) 5 c.requires.below))
 
-pub returns : goal.returns
-returns c =
-    rw (c.put_lost.ensures, c.lost-lost.ensures) (ap (before_step c.args.s.now (flash c.args.image.now) c.args.bank) c.ready_read-word.ensures ∙ left_host_goes c.requires.contested _)
+pub returns-clause-left : goal.returns-clause-left
+returns-clause-left c =
+    rw (c.put_lost.ensures, c.lost-lost.ensures) (ap (before_step c.args.s.now (flash c.args.image.now) c.args.bank) c.ready_read-word.ensures.told ∙ left_host_goes c.requires.contested _)

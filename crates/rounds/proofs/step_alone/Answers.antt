@@ -4,5 +4,5 @@ use Rattle.rounds.specs.Turns.{unserved_host}
 use Rattle.rounds.proofs.Served.{beside, left_alone}
 use Rattle.rounds.proofs.step_alone.Goals as goal
 
-pub returns : goal.returns
-returns c = ap (beside (unserved_host 0)) c.step-stepped.ensures ∙ left_alone _ _
+pub returns-clause-left : goal.returns-clause-left
+returns-clause-left c = ap (beside (unserved_host 0)) c.step-stepped.ensures ∙ left_alone _ _

@@ -6,5 +6,5 @@ use Rattle.rounds.proofs.step_goes.Goals as goal
 pub ready_step-stepped-requires : goal.ready_step-stepped-requires
 ready_step-stepped-requires c = going_ready _ _ c.requires.moves
 
-pub returns : goal.returns
-returns c = rw c.put_lost.ensures (ap (instead _) c.ready_step-stepped.ensures ∙ left_step_goes c.requires)
+pub returns-clause-left : goal.returns-clause-left
+returns-clause-left c = rw c.put_lost.ensures (ap (instead _) c.ready_step-stepped.ensures ∙ left_step_goes c.requires)

@@ -1,22 +1,32 @@
-use Rattle.std.proofs.Common.{◌≡◌, sym, ◌∙◌, ◌<◌, length, arith}
+use Rattle.std.proofs.Common.{◌≡◌, sym, ◌∙◌, ◌<◌, arith, get_or-take}
 use Rattle.model.specs.State.{flash}
-use Rattle.sheets.specs.Sheet.{expanded}
 use Rattle.expansions.proofs.Goods.{good_room}
-use Rattle.sheet_effects.proofs.Running.{running_none, running_more, runs_all, run_good, run_bad}
+use Rattle.sheet_effects.proofs.Running.{running_none, running_more, runs_few, runs_there, run_good, run_bad}
+use Rattle.sheet_run.proofs.Placed.{runs_at, front_long}
 use Rattle.sheet_run.proofs.run.Goals as goal
 
-pub expand-places-requires : goal.expand-places-requires
-expand-places-requires c = good_room _ _ (sym c.in-Ok.is ∙ c.judge-verdict.ensures)
+pub expand-requires : goal.expand-requires
+expand-requires c = good_room _ _ (sym c.in-Ok.is ∙ c.judge-verdict.ensures)
+
+pub slice_bounds-places-end : goal.slice_bounds-places-end
+slice_bounds-places-end c =
+    let few = runs_few _ _ (sym c.in-Ok.is ∙ c.judge-verdict.ensures) in
+    let long = c.expand.array_long in
+    omega arith
+
+pub slice_bounds-place-items-end : goal.slice_bounds-place-items-end
+slice_bounds-place-items-end c = sym (front_long _ _ (sym c.in-Ok.is ∙ c.judge-verdict.ensures) _ c.expand.array_long)
 
 pub loop-place-init : goal.loop-place-init
 loop-place-init c = running_none
 
 pub loop-place-preserved : goal.loop-place-preserved
 loop-place-preserved c =
-    let all : c.as_slice-place-items.result.now ≡ expanded c.args.sheet.now
-    = c.as_slice-place-items.ensures ∙ runs_all _ _ (sym c.in-Ok.is ∙ c.judge-verdict.ensures) c.expand-places.ensures in
-    let here : c.loop-place.place-index < length (expanded c.args.sheet.now) = rw all at c.loop-place-test.true in
-    running_more here c.loop-place.invariant c.perform-line.result (rw all at c.perform-line.ensures) c.write-n.ensures.0 c.write-n.ensures.1
+    let good = sym c.in-Ok.is ∙ c.judge-verdict.ensures in
+    let i = c.loop-place.place-index in
+    let h : i < c.in-Ok.count = rw (front_long _ _ good c.expand.new.places c.expand.array_long) at c.loop-place-test.true in
+    let at = get_or-take c.in-Ok.count c.expand.new.places i 0 h ∙ runs_at _ _ good c.expand.ensures i h in
+    running_more (runs_there _ _ good i h) c.loop-place.invariant c.perform-line.result (rw at at c.perform-line.ensures) c.write-n.ensures.0 c.write-n.ensures.1
 
 pub returns-in-Err : goal.returns-in-Err
 returns-in-Err c =
@@ -25,6 +35,6 @@ returns-in-Err c =
 pub returns-after-loop-place : goal.returns-after-loop-place
 returns-after-loop-place c =
     let good = sym c.in-Ok.is ∙ c.judge-verdict.ensures in
-    let all : c.as_slice-place-items.result.now ≡ expanded c.args.sheet.now = c.as_slice-place-items.ensures ∙ runs_all _ _ good c.expand-places.ensures in
-    let over : c.loop-place.place-index ≡ length (expanded c.args.sheet.now) = rw (← all) (omega arith) in
-    rw c.in-Ok.is (run_good _ _ good over c.loop-place.invariant)
+    let all = front_long _ _ good c.expand.new.places c.expand.array_long in
+    let e : c.loop-place.place-index ≡ c.in-Ok.count = omega arith in
+    run_good _ _ good e c.loop-place.invariant

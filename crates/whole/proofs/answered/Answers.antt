@@ -17,8 +17,8 @@ use Rattle.whole.proofs.answered.Goals as goal
 pub started-requires : goal.started-requires
 started-requires c = (c.requires.0, rw (sym c.requires.1 ∙ c.in-Ok.is))
 
-pub returns-in-Ok : goal.returns-in-Ok
-returns-in-Ok c = rw c.in-Ok.is c.started.ensures
+pub returns-in-Ok-clause-left : goal.returns-in-Ok-clause-left
+returns-in-Ok-clause-left c = rw c.in-Ok.is c.started.ensures
 
 pub recorded-errors-requires : goal.recorded-errors-requires
 unfolding stands_for
@@ -41,9 +41,9 @@ read-requires c =
     subst (λ (x : Answer). starts c.args.o x ≡ true) (sym c.in-Err.is ∙ c.requires.1) d in
     (placed at _ c.args.o h.free goes, read_room at _ c.args.o h.free c.args.buffer.now h.room goes (and_left (is_read c.args.o) _ d))
 
-pub returns-then-is_denied_read : goal.returns-then-is_denied_read
+pub returns-then-is_denied_read-clause-left : goal.returns-then-is_denied_read-clause-left
 unfolding stands_for
-returns-then-is_denied_read c =
+returns-then-is_denied_read-clause-left c =
     let d = sym c.is_denied_read.ensures ∙ c.if-is_denied_read.true in
     let shown = rw d at c.readable-readable.ensures in
     rw (
@@ -58,8 +58,8 @@ returns-then-is_denied_read c =
     )
     (left_denied _ (flash c.args.image.now) c.args.o c.args.buffer.now c.requires.0.encodes (Err c.in-Err.refusal) (sym c.in-Err.is ∙ c.requires.1) refl _ _)
 
-pub returns-else-is_denied_read : goal.returns-else-is_denied_read
-returns-else-is_denied_read c =
+pub returns-else-is_denied_read-clause-left : goal.returns-else-is_denied_read-clause-left
+returns-else-is_denied_read-clause-left c =
     let other = sym c.is_denied_read.ensures ∙ c.if-is_denied_read.false in
     rw (c.in-Err.is, c.put_errors-in-Err.ensures, c.recorded-errors.ensures, other)
     (left_recorded _ (flash c.args.image.now) c.args.o c.args.buffer.now c.requires.0.encodes (Err c.in-Err.refusal) (sym c.in-Err.is ∙ c.requires.1) refl)

@@ -1,0 +1,3 @@
+-- Running a bench sheet: where its entries are found.
+
+pub mod Placed
