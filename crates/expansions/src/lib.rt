@@ -10,7 +10,7 @@ ghost use Rattle.expansions.specs.Laying.{Room, laid_by};
 use numbers::{Parsed, next_of, number, number_to, value_of};
 use sheets::{MAX_RIGHTS, MAX_TIMES, OPERATION, REPEAT, WIDE_MAX_ENTRIES};
 
-// A place for each entry that may run.
+// A place for each entry that may run: lent, and `Copy`, which a struct that is seen as a list of its first places can't be.
 pub type Places = [usize; WIDE_MAX_ENTRIES];
 
 // The place after a block or an entry, and how many places are laid.
@@ -70,6 +70,7 @@ fn lay_entry(
         let mut count = first.count;
         let mut again: u32 = 0;
         let further = k - 1;
+        // Two tests, with an edit of each.
         while (again < further) & (n < count) {
             let more = lay_block(s, inner, depth + 1, places, count);
             count = more.count;

@@ -32,6 +32,7 @@ pub fn set_inputs(s: &mut Registers, inputs: Inputs) -> Answer
     Ok(())
 }
 
+// A valid state's record is emptied. What is left and what is told stand apart, for an edit of each.
 fn empty_record(s: &mut Registers, valid: bool)
     ensures { s.new ≡ cond valid (put_errors s.old no_errors) s.old }
 {

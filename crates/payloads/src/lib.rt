@@ -7,7 +7,7 @@ ghost use Rattle.payloads.specs.Fill.{GroupsOf};
 
 use scan_queue::PAYLOAD_BYTES;
 
-// Groups of seven bits, low group first.
+// Groups of seven bits, low group first; `Copy`, which the kit's `ArrayVec` is not.
 #[derive(Clone, Copy)]
 pub struct Groups {
     pub count: usize,

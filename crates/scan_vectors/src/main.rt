@@ -78,6 +78,7 @@ impl fmt::Display for Taken {
 
 // ---- the calls
 
+// Made where it is used: handed back by value, it would lie on the stack twice.
 #[derive(Clone, Copy)]
 struct Flash {
     registers: Registers,

@@ -46,6 +46,7 @@ pub fn start(s: &mut Registers, o: Asked) -> Answered {
     Answered::from(operations::start(s, Operation::from(o)))
 }
 
+// Made where it is used: handed back by value, it would lie on the stack twice.
 #[derive(Clone, Copy)]
 pub struct Flash {
     pub registers: Registers,
